@@ -3,6 +3,7 @@ pub mod CallsSoFar
 pub mod Tops
 pub mod Refused
 pub mod SoFar
+pub mod PassedOn
 pub mod Runs
 pub mod OneAnswer
 pub mod AnswersDue

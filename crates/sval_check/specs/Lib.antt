@@ -7,6 +7,7 @@ pub mod Dues
 pub mod Checked
 pub mod CheckedLaws
 pub mod Checking
+pub mod Passing
 pub mod ManyChecks
 pub mod Listing
 pub mod Tokens

@@ -149,7 +149,8 @@ impl<S> Checked<S> {
 }
 
 /// A value and its copy.
-fn twice<T: Copy>(value: T) -> (T, T)
+#[inline(always)]
+pub(crate) fn twice<T: Copy>(value: T) -> (T, T)
     ensures { result ≡ (value, value) }
 {
     (value, value)

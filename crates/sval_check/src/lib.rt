@@ -1,14 +1,15 @@
 //! Checks whether calls spell one whole value, or a list of them.
 //!
 //! [`check`] streams a value into a machine with a stack, which takes the calls that can still be completed and no
-//! others. Its definitions are in `specs/Checks.antt`. [`check_all`] checks values one after another, and gives where
-//! each of them ends. Its definitions are in `specs/ManyChecks.antt`. [`Checked`] puts the same machine before the
-//! caller's stream. Its law is in `specs/Checked.antt`. All three use [`Machine`]. Its step is in two parts, and its
-//! definitions are in `specs/Dues.antt`. [`TokenBuf`] keeps calls as [`Token`]s, so that a test can compare them. Its
-//! law is in `specs/TokenBufs.antt`.
+//! others. Its definitions are in `specs/Checks.antt`. [`check_into`] does so on the way to another stream. [`check_all`]
+//! checks values one after another, and gives where each of them ends. Its definitions are in `specs/ManyChecks.antt`.
+//! [`Checked`] puts the same machine before the caller's stream. Its law is in `specs/Checked.antt`. All four use
+//! [`Machine`]. Its step is in two parts, and its definitions are in `specs/Dues.antt`. [`TokenBuf`] keeps calls as
+//! [`Token`]s, so that a test can compare them. Its law is in `specs/TokenBufs.antt`.
 #![tactic(auto)]
 
-ghost use Rattle.std.specs.Prelude.{◌≡◌, ◌⊎◌, ℕ, Err, IfOk, OnOk};
+ghost use Rattle.std.specs.Prelude.{◌≡◌, ◌⊎◌, ℕ, Err, IfOk, IfSome, OnOk, OnSome};
+ghost use Rattle.sval_core.specs.Law.{Streams};
 ghost use Rattle.sval_check.specs.Checks.{IsOneValue, IsFirstBadCall, OnlyRefuses, IsUnfinished, NeedsMemory, CheckAnswer, IsCheckDue};
 ghost use Rattle.sval_check.specs.ManyChecks.{AreValues, IsFirstBadOfList, OnlyRefusesList, IsUnfinishedList};
 ghost use Rattle.sval_check.specs.ManyChecks.{NeedsMemoryOfList, ListAnswer, IsDueOfList};
@@ -29,6 +30,7 @@ mod lister;
 mod machine;
 mod matching;
 mod names;
+mod passing;
 mod stack;
 mod tags;
 mod token;
@@ -37,6 +39,7 @@ mod token_copies;
 
 use crate::checker::Checker;
 use crate::lister::Lister;
+use crate::passing::Passing;
 pub use checked::{Checked, Why};
 pub use ends::Ends;
 pub use error::CheckError;
@@ -44,7 +47,7 @@ pub use fragments::{TokenBytes, TokenText};
 pub use frame::Content;
 pub use machine::{Due, Machine, Refusal};
 use std::alloc::Global;
-use sval_core::{Lent, Value, is_surely_whole};
+use sval_core::{Lent, Stream, Value, is_surely_whole};
 pub use token::{Token, TokenName};
 pub use token_buf::TokenBuf;
 
@@ -107,6 +110,70 @@ fn check_calls<'v, V: Value<'v, Lent<'v>>>(alloc: Global, value: &'v V) -> Resul
         Ok(()) if checker.is_whole() => Ok(()),
         Ok(()) => Err(CheckError::Unfinished),
         Err(_) => Err(checker.cause()),
+    }
+}
+
+/// Streams a value into a stream, and checks its calls on the way, in one pass.
+///
+/// It gives the stream back only where the value's calls are one whole value, the value doesn't refuse, and the stream
+/// took all of its calls. That is what [`check`] and then streaming the value would find in two passes.
+///
+/// Else it gives nothing back. The stream, which may have taken a first part of the calls, is dropped. The cause is that
+/// the value isn't one whole value, that the stream refused a call, or that memory was wanting. It isn't told: [`check`]
+/// tells what is wrong with the value.
+///
+/// A value that is surely whole ([`is_surely_whole`]) is asked, as by [`check`], and then streamed without a check.
+///
+/// ```
+/// match check_into(alloc, &value, ValueBuf::new(alloc)) {
+///     Some(captured) => stream.value(&captured)?,
+///     None => println!(rt; "no whole value, or no memory")?,
+/// }
+/// ```
+pub fn check_into<'v, V: Value<'v, Lent<'v>>, S: Stream<Lent<'v>> + Drop>(
+    alloc: Global,
+    value: &'v V,
+    stream: S,
+) -> Option<S>
+    ensures one_value { OnSome result (IsOneValue (V.emission value.now)) }
+    ensures takes { IfSome result (λ after.
+        Streams S.law (S.standing stream) (V.emission value.now) (S.standing after)) }
+{
+    if is_surely_whole::<Lent<'v>, V>(value) {
+        return stream_into(value, stream);
+    }
+    check_calls_into(alloc, value, stream)
+}
+
+/// Streams a value into a stream, and gives it back where it took all calls.
+fn stream_into<'v, V: Value<'v, Lent<'v>>, S: Stream<Lent<'v>> + Drop>(
+    value: &'v V,
+    stream: S,
+) -> Option<S>
+    ensures { IfSome result (λ after.
+        Streams S.law (S.standing stream) (V.emission value.now) (S.standing after)) }
+{
+    let mut stream = stream;
+    match value.stream(&mut stream) {
+        Ok(()) => Some(stream),
+        Err(_) => None,
+    }
+}
+
+/// Streams a value into a stream, and checks its calls one by one.
+fn check_calls_into<'v, V: Value<'v, Lent<'v>>, S: Stream<Lent<'v>> + Drop>(
+    alloc: Global,
+    value: &'v V,
+    stream: S,
+) -> Option<S>
+    ensures one_value { OnSome result (IsOneValue (V.emission value.now)) }
+    ensures takes { IfSome result (λ after.
+        Streams S.law (S.standing stream) (V.emission value.now) (S.standing after)) }
+{
+    let mut passing = Passing::new(alloc, stream);
+    match value.stream(&mut passing) {
+        Ok(()) if passing.is_whole() => Some(passing.into_inner()),
+        _ => None,
     }
 }
 
