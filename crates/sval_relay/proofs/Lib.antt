@@ -6,6 +6,7 @@ pub mod ListTexts
 pub mod CanonTexts
 pub mod ListSteps
 pub mod Served
+pub mod AtOnce
 pub mod DueTrees
 pub mod RelayAnswers
 pub mod RecordCounts

@@ -5,6 +5,7 @@ use Rattle.sval_label.specs.Calls.{Call}
 use Rattle.sval_core.specs.Law.{Rose}
 use Rattle.sval_core.specs.Many.{SpellsAll, AreEnds}
 use Rattle.sval_core.specs.Real.{IsPrintable}
+use Rattle.sval_core.specs.Spells.{Spells}
 use Rattle.sval_core.specs.Trees.{Tree}
 use Rattle.sval_io.specs.Sinks.{Told, IsSteady, NoCountFell, LacksRoom, Appends, AppendsFront}
 use Rattle.sval_json.specs.Number.{Refusal, InvalidKey, InvalidNumber}
@@ -74,6 +75,13 @@ WritesTreeText (Err why) captured told asked tree old new = StopsTree why captur
 -- the same in a way
 abbrev pub WritesTreeBy : {K : Type 0} → Way → Result (Unit {0}) RelayError → (K → Told) → Tree → K → K → Type 0
 WritesTreeBy way result told tree old new = WritesTreeText result (is_captured way) told (asked_in way) tree old new
+
+-- the calls spell a printable tree, which was written in a way, or a first part of what is due of it
+pub record WritesSpelled {K : Type 0} (way : Way) (written : Result (Unit {0}) RelayError) (told : K → Told) (calls : List Call) (old new : K) : Type 0 where
+  pub tree : Tree
+  pub spells : Spells calls tree
+  pub printable : IsPrintable tree
+  pub writes : WritesTreeBy way written told tree old new
 
 -- ---- trees one after another
 

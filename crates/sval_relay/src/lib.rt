@@ -9,6 +9,7 @@
 pub mod laws;
 mod lists;
 mod made;
+mod one_value;
 mod relaying;
 mod running;
 mod streams;

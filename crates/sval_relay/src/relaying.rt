@@ -7,12 +7,12 @@ ghost use Rattle.sval_relay.specs.Relays.{of_check, LacksRoomFor, Relays};
 ghost use Rattle.sval_relay.specs.WrittenTrees.{IsOfScript};
 
 use crate::lists::write_list;
-use crate::trees::write_tree;
+use crate::one_value::write_checked;
 use crate::way::Way;
 use std::alloc::Global;
 use std::error::Error;
 use std::fmt;
-use sval_check::{CheckError, check, check_all};
+use sval_check::{CheckError, check_all};
 use sval_io::{Sink, SinkError};
 use sval_script::{Script, ScriptError};
 
@@ -190,8 +190,8 @@ fn serve_one<K: Sink>(
         → OnVerdict (LacksRoomFor (K.told out.old)) bytes (one_in way) }
     ensures some_call { result ≡ Err RelayError.NoMemory → 0 < length script.now }
 {
-    match check(alloc, script) {
-        Ok(()) => write_tree(alloc, &script.as_slice(), way, out),
+    match write_checked(alloc, script, way, out) {
+        Ok(written) => written,
         Err(error) => Err(found(error)),
     }
 }

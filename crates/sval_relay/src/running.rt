@@ -12,12 +12,12 @@ ghost use Rattle.sval_relay.specs.WrittenTrees.{IsOfScript};
 
 use crate::lists::write_list;
 use crate::made::relay_made;
+use crate::one_value::write_checked;
 use crate::relaying::RelayError;
 use crate::streams::Relay;
-use crate::trees::write_tree;
 use crate::way::{Task, Way};
 use std::alloc::Global;
-use sval_check::{check, check_all};
+use sval_check::check_all;
 use sval_io::{Sink, SinkError, Source};
 use sval_program::{Failure, Fault, job, read_script};
 use sval_script::Script;
@@ -59,8 +59,8 @@ fn serve_value<K: Sink>(
     ensures { (bytes : List ℕ) → length bytes < 2 ^ 64 → lines bytes ≡ Good script.now
         → ServesBytes relay_terms K.told (Serve (one_in way)) bytes result out.old out.new }
 {
-    match check(alloc, script) {
-        Ok(()) => ended(write_tree(alloc, &script.as_slice(), way, out), false),
+    match write_checked(alloc, script, way, out) {
+        Ok(written) => ended(written, false),
         Err(error) => Err(Failure::of_check(error, false)),
     }
 }

@@ -73,7 +73,7 @@ fn print_lines<K: Sink>(
 
 /// How many parts a captured value has at most: each takes a line or more. Room that isn't filled takes no memory of
 /// the system.
-fn most_parts(lines: &ScriptSlice<'_>) -> usize {
+pub(crate) fn most_parts(lines: &ScriptSlice<'_>) -> usize {
     lines.line_count() as usize
 }
 
@@ -94,7 +94,7 @@ fn capture<'v>(alloc: Global, lines: &'v ScriptSlice<'v>) -> Result<ValueBuf<'v>
 }
 
 /// Writes the JSON of a value that doesn't refuse.
-fn write_json<'v, K: Sink, V: Value<'v, Lent<'v>>>(
+pub(crate) fn write_json<'v, K: Sink, V: Value<'v, Lent<'v>>>(
     out: &mut K,
     value: &'v V,
     variants: Variants,
