@@ -1,9 +1,9 @@
 -- What is said of a value that was checked.
-use Rattle.std.specs.Prelude.{◌≡◌, ℕ, ◌+◌, ◌-◌, ◌^◌, min, Bool, true, false, List, [], ◌∷◌, ◌++◌, length, Result, Ok, Err}
+use Rattle.std.specs.Prelude.{◌≡◌, ◌⊎◌, ℕ, ◌+◌, ◌-◌, ◌^◌, min, Bool, true, false, List, [], ◌∷◌, ◌++◌, length, Result, Ok, Err}
 use Rattle.sval_label.specs.Calls.{Call, TextBegin, BinaryBegin, EnumBegin, TaggedBegin, Begin, PartBegin}
 use Rattle.sval_core.specs.Trees.{Tree}
 use Rattle.sval_core.specs.Spells.{Spells, IsViable}
-use Rattle.sval_core.specs.Law.{Emission}
+use Rattle.sval_core.specs.Law.{Emission, Law, Standing, Stops}
 pub use Rattle.sval_core.specs.OneValue.{IsOneValue}
 use Rattle.sval_check.specs.declared.error.CheckError.{CheckError}
 use Rattle.sval_check.specs.declared.error.CheckError.TheVariants as error
@@ -47,6 +47,10 @@ pub record NeedsMemory (calls : List Call) : Type 0 where
   pub whole : calls ≡ front ++ (call ∷ rest)
   pub viable : IsViable (front ++ (call ∷ []))
   pub opens : has_own_end call ≡ true
+
+-- why a stream that stood there isn't given back: this isn't one whole value, or the stream stopped it, or memory was wanting
+abbrev pub HasCauseInto : {V : Type 0} → Law V → Standing V → Emission → Type 0
+HasCauseInto {V} law old e = (IsOneValue e → ⊥) ⊎ (((new : Standing V) × Stops law old e new) ⊎ NeedsMemory e.calls)
 
 -- what checking answers
 abbrev pub CheckAnswer : Type 0

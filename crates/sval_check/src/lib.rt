@@ -8,9 +8,9 @@
 //! [`Token`]s, so that a test can compare them. Its law is in `specs/TokenBufs.antt`.
 #![tactic(auto)]
 
-ghost use Rattle.std.specs.Prelude.{◌≡◌, ◌⊎◌, ℕ, Err, IfOk, IfSome, OnOk, OnSome};
+ghost use Rattle.std.specs.Prelude.{◌≡◌, ◌⊎◌, ℕ, Err, IfNone, IfOk, IfSome, OnOk, OnSome};
 ghost use Rattle.sval_core.specs.Law.{Streams};
-ghost use Rattle.sval_check.specs.Checks.{IsOneValue, IsFirstBadCall, OnlyRefuses, IsUnfinished, NeedsMemory, CheckAnswer, IsCheckDue};
+ghost use Rattle.sval_check.specs.Checks.{IsOneValue, IsFirstBadCall, OnlyRefuses, IsUnfinished, NeedsMemory, HasCauseInto, CheckAnswer, IsCheckDue};
 ghost use Rattle.sval_check.specs.ManyChecks.{AreValues, IsFirstBadOfList, OnlyRefusesList, IsUnfinishedList};
 ghost use Rattle.sval_check.specs.ManyChecks.{NeedsMemoryOfList, ListAnswer, IsDueOfList};
 
@@ -119,8 +119,8 @@ fn check_calls<'v, V: Value<'v, Lent<'v>>>(alloc: Global, value: &'v V) -> Resul
 /// took all of its calls. That is what [`check`] and then streaming the value would find in two passes.
 ///
 /// Else it gives nothing back. The stream, which may have taken a first part of the calls, is dropped. The cause is that
-/// the value isn't one whole value, that the stream refused a call, or that memory was wanting. It isn't told: [`check`]
-/// tells what is wrong with the value.
+/// the value isn't one whole value, that the stream refused a call, or that memory was wanting for a call that begins
+/// something. It isn't told: [`check`] tells what is wrong with the value.
 ///
 /// A value that is surely whole ([`is_surely_whole`]) is asked, as by [`check`], and then streamed without a check.
 ///
@@ -138,6 +138,7 @@ pub fn check_into<'v, V: Value<'v, Lent<'v>>, S: Stream<Lent<'v>> + Drop>(
     ensures one_value { OnSome result (IsOneValue (V.emission value.now)) }
     ensures takes { IfSome result (λ after.
         Streams S.law (S.standing stream) (V.emission value.now) (S.standing after)) }
+    ensures cause { IfNone result (HasCauseInto S.law (S.standing stream) (V.emission value.now)) }
 {
     if is_surely_whole::<Lent<'v>, V>(value) {
         return stream_into(value, stream);
@@ -150,8 +151,9 @@ fn stream_into<'v, V: Value<'v, Lent<'v>>, S: Stream<Lent<'v>> + Drop>(
     value: &'v V,
     stream: S,
 ) -> Option<S>
-    ensures { IfSome result (λ after.
+    ensures takes { IfSome result (λ after.
         Streams S.law (S.standing stream) (V.emission value.now) (S.standing after)) }
+    ensures cause { IfNone result (HasCauseInto S.law (S.standing stream) (V.emission value.now)) }
 {
     let mut stream = stream;
     match value.stream(&mut stream) {
@@ -169,11 +171,13 @@ fn check_calls_into<'v, V: Value<'v, Lent<'v>>, S: Stream<Lent<'v>> + Drop>(
     ensures one_value { OnSome result (IsOneValue (V.emission value.now)) }
     ensures takes { IfSome result (λ after.
         Streams S.law (S.standing stream) (V.emission value.now) (S.standing after)) }
+    ensures cause { IfNone result (HasCauseInto S.law (S.standing stream) (V.emission value.now)) }
 {
     let mut passing = Passing::new(alloc, stream);
     match value.stream(&mut passing) {
         Ok(()) if passing.is_whole() => Some(passing.into_inner()),
-        _ => None,
+        Ok(()) => None,
+        Err(_) => None,
     }
 }
 

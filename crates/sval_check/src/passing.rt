@@ -10,7 +10,7 @@ ghost use Rattle.sval_core.specs.Trees.{Tree};
 ghost use Rattle.sval_check.specs.Checked.{CheckedView, StandsFor, checked_standing};
 ghost use Rattle.sval_check.specs.Passing.{StepsAndPasses, passing_inner, passing_law, passing_state, seen_passing};
 
-use crate::checked::twice;
+use crate::checked::{Why, twice};
 use crate::machine::Machine;
 use std::alloc::Global;
 use sval_core::{AnyCall, Error, Lending, Stream};
@@ -67,19 +67,20 @@ impl<S> Passing<S> {
     }
 }
 
-/// Goes on with a call and passes it on, or answers that it isn't taken.
+/// Goes on with a call and passes it on, or says why it isn't taken.
 #[inline(always)]
 fn pass<L: Lending, S: Stream<L>>(
     passing: &mut Passing<S>,
     call: AnyCall<'_, L::Text, L::Bytes>,
-) -> bool
+) -> Result<(), Why>
     ensures { StepsAndPasses S.law (seen_passing S.standing passing.old) (call_of L.text L.bytes call.entry)
         (seen_passing S.standing passing.new) result }
 {
     let (call, passed) = twice(call);
-    match passing.machine.step::<L>(call) {
-        Ok(()) => passing.inner.take(passed).is_ok(),
-        Err(_) => false,
+    passing.machine.step::<L>(call)?;
+    match passing.inner.take(passed) {
+        Ok(()) => Ok(()),
+        Err(_) => Err(Why::Inner),
     }
 }
 
@@ -95,10 +96,12 @@ impl<L: Lending, S: Stream<L>> Stream<L> for Passing<S> {
         ensures { Answers (passing_law S.law) result (checked_standing (seen_passing S.standing self.old))
             (call_of L.text L.bytes call.entry) (checked_standing (seen_passing S.standing self.new)) }
     {
-        if pass(self, call) {
-            return Ok(());
+        match pass(self, call) {
+            Ok(()) => Ok(()),
+            Err(_) => {
+                self.count();
+                Err(Error::new())
+            }
         }
-        self.count();
-        Err(Error::new())
     }
 }
