@@ -28,7 +28,7 @@ use crate::pictures::{add_line, plain_text};
 use crate::shown::{answer_text, compare, holds, must};
 use std::alloc::Global;
 use std::process::Abort;
-use sval_check::{Checked, check};
+use sval_check::{Checked, check, check_into};
 use sval_core::Value;
 use sval_io::{FaultySink, VecSink};
 use sval_relay::MemSource;
@@ -112,10 +112,12 @@ fn try_reading(rt: &impl Abort, alloc: Global, script: &str, kind: &str, rest: &
     compare(rt, &seen, &due, script);
 }
 
-/// What checking says of a script's calls.
+/// What checking says of a script's calls, also on the way to a printer.
 fn checking_of(rt: &impl Abort, alloc: Global, script: &str) -> String {
     let read = must(rt, Script::read(alloc, script.as_bytes()));
     let answer = check(alloc, &read);
+    let is_passed_on = check_into(alloc, &read, Printer::new(VecSink::new(alloc))).is_some();
+    holds(rt, is_passed_on == answer.is_ok(), script);
     must(rt, format!(in alloc; "{answer:?}"))
 }
 

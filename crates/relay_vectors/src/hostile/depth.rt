@@ -4,7 +4,7 @@ use crate::shown::{agrees, holds, must};
 use std::alloc::Global;
 use std::process::Abort;
 use sval_buffer::{Value as CapturedValue, ValueBuf};
-use sval_check::{Checked, check};
+use sval_check::{Checked, check, check_into};
 use sval_core::{Lent, Value};
 use sval_io::{CountSink, VecSink};
 use sval_json::stream_to_io_write;
@@ -58,8 +58,11 @@ fn checked_of(rt: &impl Abort, alloc: Global, script: &Script, lines: &[u8]) -> 
 
 /// What is told of what is captured of a script.
 fn captured_of(rt: &impl Abort, alloc: Global, script: &Script, lines: &[u8]) -> String {
-    let captured: ValueBuf<'_> = must(rt, ValueBuf::collect(alloc, script));
-    told_of(rt, alloc, &captured, lines)
+    let buffer: ValueBuf<'_> = ValueBuf::new(alloc);
+    match check_into(alloc, script, buffer) {
+        Some(captured) => told_of(rt, alloc, &captured, lines),
+        None => String::new(alloc),
+    }
 }
 
 /// Whether what was captured is complete, how long its JSON is, and whether its canonical calls are these lines.
