@@ -11,6 +11,7 @@ mod bytes;
 mod canon;
 mod field;
 mod fields;
+mod known;
 pub mod laws;
 mod line;
 mod making;

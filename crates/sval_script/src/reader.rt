@@ -201,13 +201,14 @@ impl ScriptReader {
         }
         let ReadLines {
             lines,
-            store,
+            mut store,
             begun,
         } = self.read;
         if !begun.is_empty() {
             let line = lines.len() as u64 + 1;
             return Err(ScriptError::BadLine { line });
         }
+        store.bytes.forget_labels();
         Ok(Script { lines, store })
     }
 }

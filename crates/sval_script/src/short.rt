@@ -104,6 +104,9 @@ pub(crate) fn same(a: &[u8], b: &[u8]) -> bool
         4..=7 => same_four(a, b, 0) && same_four(a, b, a.len() - 4),
         8..=15 => same_eight(a, b, 0) && same_eight(a, b, a.len() - 8),
         16..=32 => same_sixteen(a, b, 0) && same_sixteen(a, b, a.len() - 16),
+        33..=48 => same_sixteen(a, b, 0)
+            && same_sixteen(a, b, 16)
+            && same_sixteen(a, b, a.len() - 16),
         _ => a == b,
     }
 }
