@@ -102,6 +102,37 @@ tuple_begin - - - -
 tuple_value_begin - -
 = bad-line 2
 
+# Labels that come again: two that share a slot, one of 16 bytes, one of 17 and one of 24.
+record_begin - - - 7
+record_value_begin - =6161
+null
+record_value_end - =6161
+record_value_begin - =6171
+null
+record_value_end - =6171
+record_value_begin - =61616161616161616161616161616161
+null
+record_value_end - =61616161616161616161616161616161
+record_value_begin - =6161616161616161616161616161616161
+null
+record_value_end - =6161616161616161616161616161616161
+record_value_begin - =616161616161616161616161616161616161616161616161
+null
+record_value_end - =616161616161616161616161616161616161616161616161
+record_value_begin - =6161
+null
+record_value_end - =6161
+record_value_begin - =6171
+null
+record_value_end - =6171
+record_end - - -
+= json {"aa":null,"aq":null,"aaaaaaaaaaaaaaaa":null,"aaaaaaaaaaaaaaaaa":null,"aaaaaaaaaaaaaaaaaaaaaaaa":null,"aa":null,"aq":null}
+record_begin - - - 1
+record_value_begin - =6161
+null
+record_value_end - =6171
+= bad-call 4
+
 # Fields of named calls.
 tag - -
 = bad-line 1
