@@ -7,14 +7,14 @@ ghost use Rattle.sval_whole.specs.WholeCaptures.{CapturesOneValue, IsWholeCause,
 
 use std::alloc::Global;
 use sval_buffer::{AnyValueBuf, CallStore, ErrorKind};
-use sval_check::{CheckError, check};
+use sval_check::{CheckError, check, check_into};
 use sval_core::{Lent, Value};
 
 /// Captures a value, if its calls are one whole value.
 ///
 /// On `Ok` the buffer took all its calls, as `ValueBuf::collect` of `sval_buffer` captures them, and its replay
-/// spells the tree that the calls spell. The value is streamed into the check and then into the buffer. One that is
-/// surely whole is only asked in place of the check, as [`check`] says.
+/// spells the tree that the calls spell. The value is checked on the way into the buffer, by [`check_into`]. Only where
+/// that gives nothing it is streamed again, into the check, which tells the cause.
 ///
 /// ```
 /// let buffer: ValueBuf<'_> = collect_whole(alloc, &value)?;
@@ -37,6 +37,10 @@ pub fn collect_whole<'sval, N: CallStore + 'sval, V: Value<'sval, Lent<'sval>>>(
     ensures comes { (due : CheckAnswer) → IsCheckDue (V.emission v.now) due
         → (check_answer result ≡ due) ⊎ (result ≡ Err CheckError.NoMemory) }
 {
+    let buffer: AnyValueBuf<'sval, N> = AnyValueBuf::new(alloc);
+    if let Some(captured) = check_into(alloc, v, buffer) {
+        return Ok(captured);
+    }
     match check(alloc, v) {
         Ok(()) => collect_checked(alloc, v),
         Err(found) => Err(found),
