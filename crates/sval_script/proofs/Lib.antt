@@ -24,6 +24,7 @@ pub mod SameRuns
 pub mod Decimals
 pub mod FieldTexts
 pub mod DigitFields
+pub mod KnownLines
 pub mod RoomBytes
 pub mod ScriptLines
 pub mod ScriptPieces

@@ -75,16 +75,3 @@ same_halves n xs ys long room short front r tells =
     (λ back k low high. elim (cases_lt k n) [ inl near ↦ front k low (omega arith) | inr far ↦ back k (omega arith) (omega arith) ])
     (λ same k low high. same k (omega arith) (omega arith))
     tells)
-
--- two runs whose first n bytes are the same, and the next n, and whose last n bytes are compared, where these are all
-pub same_thirds : (n : ℕ) (xs ys : List ℕ) → length xs ≡ length ys → n ≤ length xs → length xs ≤ n + n + n → SameFrom 0 n xs ys → SameFrom n n xs ys
-    → (r : Bool) → (IsTrue r ↔ SameFrom (length xs - n) n xs ys) → r ≡ bytes_eq xs ys
-same_thirds n xs ys long room short front middle r tells =
-    same_whole xs ys long r
-    (Decides-like r
-    (λ back k low high. elim (cases_lt k n) [
-      | inl near ↦ front k low (omega arith)
-      | inr far ↦ elim (cases_lt k (n + n)) [ inl between ↦ middle k far (omega arith) | inr end ↦ back k (omega arith) (omega arith) ]
-    ])
-    (λ same k low high. same k (omega arith) (omega arith))
-    tells)

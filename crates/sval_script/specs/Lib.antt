@@ -10,7 +10,7 @@ pub mod Tags
 pub mod Fields
 pub mod SeenBytes
 pub mod FieldValues
-pub mod KnownLabels
+pub mod KnownLines
 pub mod NextFields
 pub mod NameNumbers
 pub mod LineCalls

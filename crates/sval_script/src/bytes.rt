@@ -1,19 +1,20 @@
 //! Bytes with room behind them.
 
-ghost use Rattle.std.specs.Prelude.{◌≡◌, ◌≤◌, None, Ok, IfOk, IfSome, OnErr, OnOk, [], length, take};
+ghost use Rattle.std.specs.Prelude.{◌≡◌, ◌≤◌, ◌-◌, ◌++◌, None, IfSome, OnErr, OnOk, OnSome, [], length, take, drop};
 ghost use Rattle.std.specs.Result.{result_ok};
 ghost use Rattle.hex.specs.Hex.{decode_of};
-ghost use Rattle.sval_script.specs.FieldValues.{Decodes, StoresLabel};
-ghost use Rattle.sval_script.specs.KnownLabels.{SpellsLabelFrom};
+ghost use Rattle.sval_script.specs.FieldValues.{Decodes};
 ghost use Rattle.sval_script.specs.SeenBytes.{KeepsFront};
 
-use crate::field::{LabelRead, LineError};
-use crate::known::{KnownLabels, KnownText, TEXT};
+use crate::field::LineError;
 use std::alloc::Global;
 use std::marker::Model;
 
 /// How many bytes of room are made at once, behind those that are needed.
 const ROOM: usize = 512;
+
+/// The length of the longest text that is copied at once.
+const TEXT: usize = 16;
 
 /// Bytes one after another, with room behind them: bytes of no meaning, so that what is decoded there needs no clearing
 /// of its own.
@@ -25,8 +26,6 @@ pub(crate) struct Bytes {
     len: usize,
     /// How many hex digits the next long field is expected to have.
     expected_digits: usize,
-    /// Labels that were read lately.
-    labels: KnownLabels,
 }
 
 impl Model for Bytes {
@@ -75,7 +74,6 @@ impl Bytes {
             room: Vec::new(alloc),
             len: 0,
             expected_digits: 0,
-            labels: KnownLabels::new(alloc),
         }
     }
 
@@ -121,43 +119,34 @@ impl Bytes {
         Ok(())
     }
 
-    /// Puts the text of a label behind the others, if its field was read lately. Answers what the field says.
+    /// Puts the first `len` of these bytes behind the others.
     #[inline(always)]
-    pub(crate) fn put_known(&mut self, field: &[u8]) -> Result<Option<LabelRead>, LineError>
-        ensures stored { IfOk result (λ found. IfSome found (λ label.
-            StoresLabel field.now self.old.items self.new.items label)) }
-        ensures same { result ≡ Ok None → self.new.items ≡ self.old.items }
+    pub(crate) fn put_text(&mut self, text: [u8; 16], len: usize) -> Result<(), LineError>
+        requires { len ≤ 16 }
+        ensures stored { OnOk result (self.new.items ≡ self.old.items ++ take len text) }
         ensures no_memory { ¬ (result ≡ Err LineError.Bad) }
     {
-        let Some(known) = self.labels.find(field) else {
-            return Ok(None);
-        };
         let end = self.len + TEXT;
         lengthen(&mut self.room, end)?;
-        self.room[self.len..end].copy_from_slice(&known.text);
-        self.len += known.label.len as usize;
-        Ok(Some(known.label))
+        self.room[self.len..end].copy_from_slice(&text);
+        self.len += len;
+        Ok(())
     }
 
-    /// Remembers a label, whose text is the bytes from `start` on. A long label is not remembered.
+    /// The bytes from a place on, and others behind them, if they are at most 16 and there is room for as many.
     #[inline(always)]
-    pub(crate) fn remember(&mut self, field: &[u8], start: usize, label: LabelRead)
-        requires { SpellsLabelFrom field.now self.old.items start label }
-        ensures { self.new.items ≡ self.old.items }
+    pub(crate) fn text_from(&self, start: usize) -> Option<[u8; 16]>
+        requires { start ≤ length self.now.items }
+        ensures short { OnSome result (length self.now.items - start ≤ 16) }
+        ensures text { IfSome result (λ text.
+            take (length self.now.items - start) text ≡ drop start self.now.items) }
     {
-        if label.len as usize > TEXT {
-            return;
+        if self.len == start {
+            return Some([0; 16]);
         }
-        let Some(text) = first_sixteen(&self.room[start..]) else {
-            return;
-        };
-        self.labels.remember(field, KnownText { text, label });
-    }
-
-    /// Forgets the labels that were read, and frees their memory.
-    pub(crate) fn forget_labels(&mut self)
-        ensures { self.new.items ≡ self.old.items }
-    {
-        self.labels.forget();
+        if self.len - start > TEXT {
+            return None;
+        }
+        first_sixteen(&self.room[start..])
     }
 }

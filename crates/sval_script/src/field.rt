@@ -241,39 +241,15 @@ pub(crate) fn store_bytes(store: &mut Bytes, field: &[u8]) -> Result<u32, LineEr
     kept_len(store.len() - start)
 }
 
-/// Decodes a label's text behind what the store has.
+/// Puts a label's text behind what the store has.
 #[inline(always)]
-fn decode_label(store: &mut Bytes, field: &[u8]) -> Result<LabelRead, LineError>
+pub(crate) fn store_label(store: &mut Bytes, field: &[u8]) -> Result<LabelRead, LineError>
     ensures stored { IfOk result (λ label. StoresLabel field.now store.old.items store.new.items label) }
     ensures bad { result ≡ Err LineError.Bad → script.label field.now ≡ None }
 {
     let (part, tag) = split_tag(field).ok_or(LineError::Bad)?;
     let len = store_text(store, part)?;
     Ok(LabelRead { tag, len })
-}
-
-/// Decodes a label's text behind what the store has, and remembers the label.
-#[inline(never)]
-fn store_new_label(store: &mut Bytes, field: &[u8]) -> Result<LabelRead, LineError>
-    ensures stored { IfOk result (λ label. StoresLabel field.now store.old.items store.new.items label) }
-    ensures bad { result ≡ Err LineError.Bad → script.label field.now ≡ None }
-{
-    let start = store.len();
-    let label = decode_label(store, field)?;
-    store.remember(field, start, label);
-    Ok(label)
-}
-
-/// Puts a label's text behind what the store has. The text of a label that was read lately is copied, not decoded.
-#[inline(always)]
-pub(crate) fn store_label(store: &mut Bytes, field: &[u8]) -> Result<LabelRead, LineError>
-    ensures stored { IfOk result (λ label. StoresLabel field.now store.old.items store.new.items label) }
-    ensures bad { result ≡ Err LineError.Bad → script.label field.now ≡ None }
-{
-    match store.put_known(field)? {
-        Some(label) => Ok(label),
-        None => store_new_label(store, field),
-    }
 }
 
 /// Puts a label's text behind what the store has, or nothing for `-`, and answers how many bytes it has.

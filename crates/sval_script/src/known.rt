@@ -1,168 +1,283 @@
-//! Labels that were read lately.
+//! Lines that were read lately.
 
-ghost use Rattle.std.specs.Prelude.{◌≤◌, IfSome, IsTrue, length};
-ghost use Rattle.sval_script.specs.KnownLabels.{IsKnownLabel};
+ghost use Rattle.std.specs.Prelude.{◌≡◌, ◌<◌, ◌≤◌, IfSome, IsTrue, length, take};
+ghost use Rattle.sval_script.specs.KnownLines.{IsKeptLine};
 
-use crate::field::LabelRead;
-use crate::short::same;
-use crate::tag::TagField;
+use crate::line::Line;
+use crate::short::begins_with;
 use std::alloc::Global;
 use std::marker::Model;
 
-/// The number of labels that are remembered at once.
-const SLOTS: usize = 32;
+/// The number of lines that are remembered at once.
+const LINES: usize = 64;
 
-/// The length of the longest field whose label is remembered.
-const FIELD: usize = 48;
+/// How many numbers there are for lines.
+const PLACES: usize = 1024;
 
-/// The length of the longest text of a label that is remembered.
-pub(crate) const TEXT: usize = 16;
+/// The length of the longest line that is remembered, with its line feed.
+const LINE: usize = 80;
 
-/// A label, and its text: the first `label.len` bytes of `text`.
+/// The place of no line.
+const NONE: usize = LINES;
+
+/// What a line puts into the store, and the line itself.
 #[derive(Clone, Copy)]
-pub(crate) struct KnownText {
+pub(crate) struct KeptLine {
+    pub(crate) line: Line,
+    /// The line's own bytes, and others behind them.
     pub(crate) text: [u8; 16],
-    pub(crate) label: LabelRead,
+    /// How many bytes are the line's own.
+    pub(crate) text_len: usize,
+    /// The line's own numbers, and others behind them.
+    pub(crate) numbers: [u64; 2],
+    /// How many numbers are the line's own.
+    pub(crate) count: usize,
 }
 
-/// A field, and the label that it spells. Its view says nothing, since which labels are remembered is no promise.
+/// A line of a script as it was spelled, and what it says. Its view says nothing, since which lines are remembered is
+/// no promise.
 #[derive(Drop)]
-struct KnownLabel {
-    /// The bytes of the field, and others behind them.
-    field: [u8; 48],
-    /// The length of the field.
-    field_len: usize,
-    known: KnownText,
+struct KnownLine {
+    /// The bytes of the line with its line feed, and others behind them.
+    bytes: [u8; 80],
+    /// How many bytes the line has.
+    len: usize,
+    kept: KeptLine,
+    /// The place of a line that came next.
+    next: usize,
+    /// The place of another line that came next, before that.
+    other: usize,
+    /// The place of the line that came behind values, the last time.
+    behind_values: usize,
 }
 
-impl Model for KnownLabel {
+impl Model for KnownLine {
     ghost use Rattle.std.specs.Prelude.{⊤};
-    ghost use Rattle.sval_script.specs.KnownLabels.{IsKeptLabel};
+    ghost use Rattle.sval_script.specs.KnownLines.{IsKnownLine};
 
     ghost Value = { ⊤ };
 
     ghost view = { λ _. tt };
 
-    ghost invariant = { λ kept. IsKeptLabel kept.field kept.field_len kept.known };
+    ghost invariant = { λ known. IsKnownLine known.bytes known.len known.kept };
 }
 
-impl KnownLabel {
-    /// The empty label, which `=` spells.
-    fn empty() -> KnownLabel {
-        KnownLabel {
-            field: [b'='; 48],
-            field_len: 1,
-            known: KnownText {
-                text: [0; 16],
-                label: LabelRead {
-                    tag: TagField::Absent,
-                    len: 0,
-                },
-            },
+impl KnownLine {
+    /// A line, which is no longer than the longest that is remembered.
+    fn new(line: &[u8], kept: KeptLine) -> KnownLine
+        requires short { length line.now ≤ 80 }
+        requires kept { IsKeptLine line.now kept }
+    {
+        let mut bytes = [0; 80];
+        bytes[..line.len()].copy_from_slice(line);
+        KnownLine {
+            bytes,
+            len: line.len(),
+            kept,
+            next: NONE,
+            other: NONE,
+            behind_values: NONE,
         }
     }
 
-    /// Replaces the field and its label.
+    /// What the line says and how long it is, if a script begins with it.
     #[inline(always)]
-    fn set(&mut self, field: &[u8], known: KnownText)
-        requires short { length field.now ≤ 48 }
-        requires known { IsKnownLabel field.now known }
+    fn read(&self, script: &[u8]) -> Option<(KeptLine, usize)>
+        ensures within { IfSome result (λ found. found.1 ≤ length script.now) }
+        ensures kept { IfSome result (λ found. IsKeptLine (take found.1 script.now) found.0) }
     {
-        self.field[..field.len()].copy_from_slice(field);
-        self.field_len = field.len();
-        self.known = known;
-    }
-
-    /// The label, if this is its field.
-    #[inline(always)]
-    fn read(&self, field: &[u8]) -> Option<KnownText>
-        ensures { IfSome result (λ known. IsKnownLabel field.now known) }
-    {
-        if same(&self.field[..self.field_len], field) {
-            Some(self.known)
+        if begins_with(script, &self.bytes[..self.len]) {
+            Some((self.kept, self.len))
         } else {
             None
         }
     }
+
+    /// Whether it is this line.
+    fn is(&self, line: &[u8]) -> bool {
+        line.len() == self.len && begins_with(line, &self.bytes[..self.len])
+    }
 }
 
-/// Labels that were read lately. A few bytes of a label's field choose its slot.
+/// Lines that were read lately.
+///
+/// Of each it is remembered which line came next, and which came behind the values after it. Where a script repeats
+/// itself, that line comes again. So one comparison reads it, with no search for the ends of its fields.
 #[derive(Drop)]
-pub(crate) struct KnownLabels {
-    /// The slots: none before the first label, and those of labels yet to come hold the empty label.
-    slots: Vec<KnownLabel>,
+pub(crate) struct KnownLines {
+    lines: Vec<KnownLine>,
+    /// The place of the line that is replaced next, once there are as many as are remembered.
+    oldest: usize,
+    /// Where a line is among them, by a number that is chosen by its bytes. Other lines may share that number.
+    places: Vec<u8>,
+    /// The place of the line that was read last, but for values.
+    last: usize,
+    /// The place of the line that is expected.
+    expected: usize,
+    /// The place of the line that is expected else.
+    other: usize,
+    /// Whether a value was read since.
+    is_behind_value: bool,
 }
 
-/// Whether the label of a field of this length is remembered.
+/// A number with a byte mixed in.
 #[inline(always)]
-fn is_short(len: usize) -> bool
-    ensures { IsTrue result → (5 ≤ len) × (len ≤ 48) }
-{
-    5 <= len && len <= FIELD
+fn mixed(number: u64, byte: u8) -> u64 {
+    number.wrapping_mul(31).wrapping_add(u64::from(byte))
 }
 
-/// The slot for the label of a field.
-#[inline(always)]
-fn slot_of(field: &[u8]) -> usize
-    requires few { length field.now ≤ 48 }
-    requires some { 5 ≤ length field.now }
+/// A number for a line, by its length and eight of its bytes.
+fn number_of(line: &[u8]) -> usize
+    requires some { 0 < length line.now }
+    requires short { length line.now ≤ 80 }
 {
-    (field[2] as usize * 5 + field[4] as usize * 3 + field[field.len() / 2] as usize) % SLOTS
+    let len = line.len();
+    let number = mixed(mixed(len as u64, line[0]), line[len / 8]);
+    let number = mixed(mixed(number, line[len / 4]), line[len * 3 / 8]);
+    let number = mixed(mixed(number, line[len / 2]), line[len * 5 / 8]);
+    let number = mixed(mixed(number, line[len * 3 / 4]), line[len * 7 / 8]);
+    (number.wrapping_mul(0x9e37_79b9_7f4a_7c15) >> 54) as usize
 }
 
-impl KnownLabels {
-    /// No label, which takes no memory yet.
-    pub(crate) fn new(alloc: Global) -> KnownLabels {
-        KnownLabels {
-            slots: Vec::new(alloc),
+impl KnownLines {
+    /// No line, which takes no memory yet.
+    pub(crate) fn new(alloc: Global) -> KnownLines {
+        KnownLines {
+            lines: Vec::new(alloc),
+            oldest: 0,
+            places: Vec::new(alloc),
+            last: NONE,
+            expected: NONE,
+            other: NONE,
+            is_behind_value: false,
         }
     }
 
-    /// The label that the field spells, if it is remembered.
+    /// What the line at a place says and how long it is, if a script begins with it. It is then the last line.
     #[inline(always)]
-    pub(crate) fn find(&self, field: &[u8]) -> Option<KnownText>
-        ensures { IfSome result (λ known. IsKnownLabel field.now known) }
+    fn find_at(&mut self, place: usize, script: &[u8]) -> Option<(KeptLine, usize)>
+        ensures within { IfSome result (λ found. found.1 ≤ length script.now) }
+        ensures kept { IfSome result (λ found. IsKeptLine (take found.1 script.now) found.0) }
     {
-        if !is_short(field.len()) {
-            return None;
-        }
-        let kept = self.slots.get(slot_of(field))?;
-        kept.read(field)
+        let known = self.lines.get(place)?;
+        let found = known.read(script)?;
+        let (next, other) = (known.next, known.other);
+        self.last = place;
+        self.expected = next;
+        self.other = other;
+        self.is_behind_value = false;
+        Some(found)
     }
 
-    /// Forgets all labels, and frees their memory.
-    pub(crate) fn forget(&mut self) {
-        self.slots.clear();
-        self.slots.shrink_to_fit();
+    /// What the line that is expected says and how long it is, if a script begins with it.
+    #[inline(always)]
+    pub(crate) fn find(&mut self, script: &[u8]) -> Option<(KeptLine, usize)>
+        ensures within { IfSome result (λ found. found.1 ≤ length script.now) }
+        ensures kept { IfSome result (λ found. IsKeptLine (take found.1 script.now) found.0) }
+    {
+        self.find_at(self.expected, script)
     }
 
-    /// Makes the slots. Where there is no memory for them, there stay none.
-    #[inline(never)]
-    fn make_slots(&mut self) {
-        if self.slots.reserve_exact(SLOTS).is_err() {
+    /// The same of the line that is expected else.
+    #[inline(always)]
+    pub(crate) fn find_other(&mut self, script: &[u8]) -> Option<(KeptLine, usize)>
+        ensures within { IfSome result (λ found. found.1 ≤ length script.now) }
+        ensures kept { IfSome result (λ found. IsKeptLine (take found.1 script.now) found.0) }
+    {
+        self.find_at(self.other, script)
+    }
+
+    /// Whether another line is expected, too.
+    #[inline(always)]
+    pub(crate) fn expects_other(&self) -> bool {
+        self.other < LINES
+    }
+
+    /// Expects the line that came behind the values after the last line, since a value was read.
+    #[inline(always)]
+    pub(crate) fn pass_value(&mut self) {
+        self.is_behind_value = true;
+        self.other = NONE;
+        self.expected = match self.lines.get(self.last) {
+            Some(known) => known.behind_values,
+            None => NONE,
+        };
+    }
+
+    /// Expects no line, since one was read that isn't remembered.
+    pub(crate) fn pass_other(&mut self) {
+        self.last = NONE;
+        self.expected = NONE;
+        self.other = NONE;
+    }
+
+    /// Remembers a line that was read. A long line is not remembered, nor is any where there is no memory for it.
+    pub(crate) fn remember(&mut self, line: &[u8], kept: KeptLine)
+        requires { IsKeptLine line.now kept }
+    {
+        if line.is_empty() || line.len() > LINE {
+            self.pass_other();
             return;
         }
-        for _ in 0..SLOTS {
-            if self.slots.push(KnownLabel::empty()).is_err() {
-                return;
+        let at = self.place(line, kept);
+        self.follow_last(at);
+        match self.lines.get(at) {
+            Some(known) => {
+                self.last = at;
+                self.expected = known.next;
+                self.other = known.other;
+            }
+            None => self.pass_other(),
+        }
+        self.is_behind_value = false;
+    }
+
+    /// Expects a line where the last one comes again, and values behind it if some came now.
+    fn follow_last(&mut self, at: usize) {
+        if let Some(last) = self.lines.get_mut(self.last) {
+            if self.is_behind_value {
+                last.behind_values = at;
+            } else {
+                last.other = last.next;
+                last.next = at;
             }
         }
     }
 
-    /// Remembers the label that a field spells, in place of the one in its slot. The label of a long field is not
-    /// remembered, nor is any label where there is no memory for the slots.
-    #[inline(always)]
-    pub(crate) fn remember(&mut self, field: &[u8], known: KnownText)
-        requires { IsKnownLabel field.now known }
+    /// The place of a line, which is put there unless it is one of those that are remembered.
+    fn place(&mut self, line: &[u8], kept: KeptLine) -> usize
+        requires some { 0 < length line.now }
+        requires short { length line.now ≤ 80 }
+        requires kept { IsKeptLine line.now kept }
     {
-        if !is_short(field.len()) {
-            return;
+        if self.places.is_empty() && self.places.resize(PLACES, 0).is_err() {
+            return NONE;
         }
-        if self.slots.is_empty() {
-            self.make_slots();
+        let number = number_of(line);
+        let Some(place) = self.places.get_mut(number) else {
+            return NONE;
+        };
+        let at = *place as usize;
+        if let Some(known) = self.lines.get(at) {
+            if known.is(line) {
+                return at;
+            }
         }
-        if let Some(kept) = self.slots.get_mut(slot_of(field)) {
-            kept.set(field, known);
+        let known = KnownLine::new(line, kept);
+        if self.lines.len() < LINES {
+            *place = self.lines.len() as u8;
+            match self.lines.push(known) {
+                Ok(()) => self.lines.len() - 1,
+                Err(_) => NONE,
+            }
+        } else {
+            let at = self.oldest % LINES;
+            self.oldest = (at + 1) % LINES;
+            *place = at as u8;
+            if let Some(oldest) = self.lines.get_mut(at) {
+                *oldest = known;
+            }
+            at
         }
     }
 }

@@ -1,13 +1,15 @@
 //! The lines of a script.
 
-ghost use Rattle.std.specs.Prelude.{◌≡◌, None, IfOk};
+ghost use Rattle.std.specs.Prelude.{◌≡◌, None, Ok, IfOk, IfSome};
 ghost use Rattle.sval_script.specs.NextFields.{first_call};
 ghost use Rattle.sval_script.specs.LineCalls.{stored};
 ghost use Rattle.sval_script.specs.MadeLines.{ReadsFieldsOf, TellsBad, IsMade};
+ghost use Rattle.sval_script.specs.KnownLines.{ReadsLine};
 ghost use Rattle.sval_script.specs.declared.word.Word.TheVariants as word;
 
 use crate::field::{LineError, Sign};
 use crate::fields::{Fields, NameFields};
+use crate::known::KnownLines;
 use crate::store::Store;
 use crate::tag::TagField;
 use crate::word::{Alone, Lifetime, Named, NamedOpening, NumberType, Opening, Side, Word};
@@ -63,6 +65,25 @@ pub(crate) enum Line {
     /// A field's tag, its label's tag and its index. The label's length and the index's number are two numbers of the
     /// store.
     FieldPlace(Side, TagField, TagField, Sign, TagField),
+}
+
+impl Line {
+    /// Whether it is a value, or a part of one, which seldom comes again as it is.
+    #[inline(always)]
+    pub(crate) fn is_value(self) -> bool {
+        match self {
+            Line::Alone(_)
+            | Line::Opening(_)
+            | Line::SizedOpening(_)
+            | Line::Named(_, _)
+            | Line::NamedOpening(_, _)
+            | Line::SizedNamedOpening(_, _)
+            | Line::Field(_, _, _, _)
+            | Line::Place(_, _, _, _)
+            | Line::FieldPlace(_, _, _, _, _) => false,
+            _ => true,
+        }
+    }
 }
 
 /// Reads a truth value.
@@ -218,20 +239,71 @@ impl Word {
     }
 }
 
-/// Reads the first line of a script, and answers also what follows it. What doesn't fit the line goes behind what the
-/// store has.
+/// Reads the first line of a script as [`read_line`] does, and remembers it, unless it is a value.
 #[inline(always)]
-pub(crate) fn read_line<'a>(
+fn read_new_line<'a>(
     store: &mut Store,
+    known: &mut KnownLines,
     script: &'a [u8],
 ) -> Result<(Line, &'a [u8]), LineError>
     ensures made { IfOk result (λ got.
         IsMade (first_call script.now) got.1.now (stored store.old) (stored store.new) got.0) }
     ensures bad { result ≡ Err LineError.Bad → first_call script.now ≡ None }
 {
+    let start = store.bytes.len();
+    let count = store.numbers.len();
     let mut fields = Fields::new(script);
     let word = fields.word().ok_or(LineError::Bad)?;
     let made = word.read_fields(store, &mut fields)?;
     let rest = fields.end().ok_or(LineError::Bad)?;
+    if made.is_value() {
+        known.pass_value();
+    } else {
+        let spelled = &script[..script.len() - rest.len()];
+        store.remember(known, spelled, start, count, made);
+    }
     Ok((made, rest))
+}
+
+/// Reads the first line of a script, if it is the other line that is expected, and answers also its length.
+#[inline(never)]
+fn read_other(
+    store: &mut Store,
+    known: &mut KnownLines,
+    script: &[u8],
+) -> Result<Option<(Line, usize)>, LineError>
+    ensures made { IfOk result (λ found. IfSome found (λ got.
+        ReadsLine script.now got (stored store.old) (stored store.new))) }
+    ensures same { result ≡ Ok None → stored store.new ≡ stored store.old }
+    ensures no_memory { ¬ (result ≡ Err LineError.Bad) }
+{
+    let Some((kept, len)) = known.find_other(script) else {
+        return Ok(None);
+    };
+    store.put_kept(kept)?;
+    Ok(Some((kept.line, len)))
+}
+
+/// Reads the first line of a script, and answers also what follows it. What doesn't fit the line goes behind what the
+/// store has. A line that is expected, since it came there before, is told by one comparison.
+#[inline(always)]
+pub(crate) fn read_line<'a>(
+    store: &mut Store,
+    known: &mut KnownLines,
+    script: &'a [u8],
+) -> Result<(Line, &'a [u8]), LineError>
+    ensures made { IfOk result (λ got.
+        IsMade (first_call script.now) got.1.now (stored store.old) (stored store.new) got.0) }
+    ensures bad { result ≡ Err LineError.Bad → first_call script.now ≡ None }
+{
+    if let Some((kept, len)) = known.find(script) {
+        store.put_kept(kept)?;
+        return Ok((kept.line, &script[len..]));
+    }
+    if known.expects_other() {
+        if let Some((line, len)) = read_other(store, known, script)? {
+            return Ok((line, &script[len..]));
+        }
+    }
+    read_new_line(store, known, script)
 }

@@ -8,6 +8,7 @@ ghost use Rattle.sval_script.specs.ReadLines.{line_calls, lines_with, StoreHolds
 ghost use Rattle.sval_script.specs.ReadLines.{NamesBadLine};
 
 use crate::field::LineError;
+use crate::known::KnownLines;
 use crate::line::{Line, read_line};
 use crate::script::{Script, ScriptError};
 use crate::store::Store;
@@ -22,10 +23,17 @@ pub(crate) struct ReadLines {
     store: Store,
     /// The bytes behind the last line feed.
     begun: Vec<u8>,
+    /// Lines that were read lately.
+    known: KnownLines,
 }
 
 /// Reads whole lines behind those that were read.
-fn read_lines(lines: &mut Vec<Line>, store: &mut Store, bytes: &[u8]) -> Result<(), ScriptError>
+fn read_lines(
+    lines: &mut Vec<Line>,
+    store: &mut Store,
+    known: &mut KnownLines,
+    bytes: &[u8],
+) -> Result<(), ScriptError>
     requires holds { StoreHoldsLines lines.old.items (stored store.old) }
     requires whole { EndsLine bytes.now }
     ensures read { OnOk result (ReadsLinesOn lines.old.items (stored store.old) bytes.now
@@ -35,7 +43,7 @@ fn read_lines(lines: &mut Vec<Line>, store: &mut Store, bytes: &[u8]) -> Result<
     let mut rest = bytes;
     while !rest.is_empty() {
         let line = lines.len() as u64 + 1;
-        let (made, behind) = match read_line(store, rest) {
+        let (made, behind) = match read_line(store, known, rest) {
             Ok(read) => read,
             Err(LineError::Bad) => return Err(ScriptError::BadLine { line }),
             Err(LineError::NoMemory) => return Err(ScriptError::NoMemory),
@@ -58,6 +66,7 @@ impl ReadLines {
             lines: Vec::new(alloc),
             store: Store::new(alloc),
             begun: Vec::new(alloc),
+            known: KnownLines::new(alloc),
         }
     }
 
@@ -78,7 +87,12 @@ impl ReadLines {
         };
         let (last, behind) = whole.split_at(feed + 1);
         self.begun.extend_from_slice(last)?;
-        read_lines(&mut self.lines, &mut self.store, &self.begun)?;
+        read_lines(
+            &mut self.lines,
+            &mut self.store,
+            &mut self.known,
+            &self.begun,
+        )?;
         self.begun.clear();
         Ok(behind)
     }
@@ -96,7 +110,7 @@ impl ReadLines {
         };
         let (whole, begun) = piece.split_at(feed + 1);
         let behind = self.end_line(whole)?;
-        read_lines(&mut self.lines, &mut self.store, behind)?;
+        read_lines(&mut self.lines, &mut self.store, &mut self.known, behind)?;
         self.begun.extend_from_slice(begun)?;
         Ok(())
     }
@@ -201,14 +215,14 @@ impl ScriptReader {
         }
         let ReadLines {
             lines,
-            mut store,
+            store,
             begun,
+            known: _known,
         } = self.read;
         if !begun.is_empty() {
             let line = lines.len() as u64 + 1;
             return Err(ScriptError::BadLine { line });
         }
-        store.bytes.forget_labels();
         Ok(Script { lines, store })
     }
 }

@@ -1,6 +1,6 @@
 //! Short runs of bytes.
 
-ghost use Rattle.std.specs.Prelude.{◌≡◌, ◌↔◌, ◌+◌, ◌≤◌, length, IsTrue, bytes_eq};
+ghost use Rattle.std.specs.Prelude.{◌≡◌, ◌↔◌, ◌+◌, ◌≤◌, length, take, IsTrue, bytes_eq};
 ghost use Rattle.std.specs.Int.{bit_at};
 ghost use Rattle.memchr.specs.Find.{IsFirst, IsFirstByte, is_byte, is_byte2};
 ghost use Rattle.sval_script.specs.Runs.{MarksFirst, SameFrom};
@@ -104,11 +104,41 @@ pub(crate) fn same(a: &[u8], b: &[u8]) -> bool
         4..=7 => same_four(a, b, 0) && same_four(a, b, a.len() - 4),
         8..=15 => same_eight(a, b, 0) && same_eight(a, b, a.len() - 8),
         16..=32 => same_sixteen(a, b, 0) && same_sixteen(a, b, a.len() - 16),
-        33..=48 => same_sixteen(a, b, 0)
-            && same_sixteen(a, b, 16)
-            && same_sixteen(a, b, a.len() - 16),
         _ => a == b,
     }
+}
+
+/// Whether a run begins with these at most 80 bytes.
+#[inline(always)]
+pub(crate) fn begins_with(run: &[u8], front: &[u8]) -> bool
+    requires { length front.now ≤ 80 }
+    ensures { IsTrue result → take (length front.now) run.now ≡ front.now }
+{
+    if run.len() < front.len() {
+        return false;
+    }
+    let run = &run[..front.len()];
+    if front.len() < 16 {
+        same(front, run)
+    } else {
+        same_long(front, run)
+    }
+}
+
+/// Whether two runs of one length are the same, of 16 to 80 bytes.
+#[inline(always)]
+fn same_long(a: &[u8], b: &[u8]) -> bool
+    requires same_len { length a.now ≡ length b.now }
+    requires long { 16 ≤ length a.now }
+    requires short { length a.now ≤ 80 }
+    ensures { IsTrue result → a.now ≡ b.now }
+{
+    let len = a.len();
+    same_sixteen(a, b, 0)
+        && (len <= 32 || same_sixteen(a, b, 16))
+        && (len <= 48 || same_sixteen(a, b, 32))
+        && (len <= 64 || same_sixteen(a, b, 48))
+        && same_sixteen(a, b, len - 16)
 }
 
 /// Whether two runs of one length are the same.

@@ -7,10 +7,12 @@ ghost use Rattle.sval_script.specs.LineCalls.{stored, wide};
 ghost use Rattle.sval_script.specs.NameNumbers.{label_numbers, index_numbers, name_numbers};
 ghost use Rattle.sval_script.specs.NameNumbers.{label_count, name_count, next_label_len};
 ghost use Rattle.sval_script.specs.MadeLines.{StoresCall, PutsWide};
+ghost use Rattle.sval_script.specs.KnownLines.{StoresLine};
 
 use crate::bytes::Bytes;
 use crate::field::{IndexField, LabelField, LineError};
 use crate::fields::{NameFields, NameRead};
+use crate::known::{KeptLine, KnownLines};
 use crate::line::Line;
 use std::alloc::Global;
 use sval_label::Int;
@@ -132,6 +134,60 @@ impl Store {
                 Ok(Line::I128)
             }
         }
+    }
+
+    /// Puts a line's own bytes and numbers behind the others.
+    #[inline(always)]
+    pub(crate) fn put_kept(&mut self, kept: KeptLine) -> Result<(), LineError>
+        requires bytes { kept.text_len ≤ 16 }
+        requires numbers { kept.count ≤ 2 }
+        ensures bytes { OnOk result
+            (self.new.bytes.items ≡ self.old.bytes.items ++ take kept.text_len kept.text) }
+        ensures numbers { OnOk result
+            (self.new.numbers.items ≡ self.old.numbers.items ++ take kept.count kept.numbers) }
+        ensures no_memory { ¬ (result ≡ Err LineError.Bad) }
+    {
+        if kept.text_len > 0 {
+            self.bytes.put_text(kept.text, kept.text_len)?;
+        }
+        match kept.count {
+            0 => Ok(()),
+            1 => self.push(kept.numbers[0]),
+            _ => self.push_two(kept.numbers[0], kept.numbers[1]),
+        }
+    }
+
+    /// Remembers a line with its line feed, whose own bytes and numbers are those from `start` and `count` on.
+    #[inline(never)]
+    pub(crate) fn remember(
+        &self,
+        known: &mut KnownLines,
+        spelled: &[u8],
+        start: usize,
+        count: usize,
+        line: Line,
+    )
+        requires { StoresLine spelled.now start count (stored self.now) line }
+    {
+        let own = &self.numbers[count..];
+        let mut numbers = [0; 2];
+        if own.len() > numbers.len() {
+            known.pass_other();
+            return;
+        }
+        let Some(text) = self.bytes.text_from(start) else {
+            known.pass_other();
+            return;
+        };
+        numbers[..own.len()].copy_from_slice(own);
+        let kept = KeptLine {
+            line,
+            text,
+            text_len: self.bytes.len() - start,
+            numbers,
+            count: own.len(),
+        };
+        known.remember(spelled, kept);
     }
 }
 

@@ -1,12 +1,13 @@
-use Rattle.sval_script.proofs.FieldsRead.{is_made, is_not_made}
+use Rattle.std.proofs.Common.{ap, subst, drop, sym}
+use Rattle.std.proofs.lemmas.List.{take_rest}
+use Rattle.sval_script.specs.LineCalls.{stored}
+use Rattle.sval_script.specs.MadeLines.{IsMade}
+use Rattle.sval_script.specs.NextFields.{first_call}
+use Rattle.sval_script.proofs.KnownLines.{kept_made}
 use Rattle.sval_script.proofs.line.read_line.Goals as goal
 
-pub returns-clause-made : goal.returns-clause-made
-returns-clause-made c =
-    is_made c.args.script.now c.in_ok-word.word c.word.new.self c.read_fields.new.fields c.word.result c.end.result _ c.in_ok-rest.rest (rw (← c.new-fields.ensures) c.word.ensures) c.in_ok-word.ensures.value c.in_ok-made.ensures.made c.end.ensures
-    c.in_ok-rest.ensures.value
-
-pub returns-in_err-rest-clause-bad : goal.returns-in_err-rest-clause-bad
-returns-in_err-rest-clause-bad c =
-    λ _. is_not_made c.args.script.now c.in_ok-word.word c.word.new.self c.read_fields.new.fields c.word.result c.end.result _ _ (rw (← c.new-fields.ensures) c.word.ensures) c.in_ok-word.ensures.value c.in_ok-made.ensures.made c.end.ensures
-    c.in_err-rest.ensures.value
+pub returns-in-Some-clause-made : goal.returns-in-Some-clause-made
+returns-in-Some-clause-made c =
+    let script = c.args.script.now in
+    let made = kept_made script c.in-Some.len c.in-Some.kept (stored c.args.store.now) (stored c.put_kept.new.self) c.in-Some.ensures.kept c.in_ok-put_kept.ensures.bytes c.in_ok-put_kept.ensures.numbers in
+    rw (take_rest script c.in-Some.len) made

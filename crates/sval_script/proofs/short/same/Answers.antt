@@ -1,7 +1,6 @@
 use Rattle.std.proofs.Common.{arith}
-use Rattle.sval_script.proofs.SameRuns.{same_whole, same_halves, same_thirds}
+use Rattle.sval_script.proofs.SameRuns.{same_whole, same_halves}
 use Rattle.sval_script.proofs.short.same.Goals as goal
-use Rattle.sval_script.proofs.short.same.Goals.{then-same_sixteen-2, else-same_sixteen-2}
 
 pub returns-in-0-to-3 : goal.returns-in-0-to-3
 returns-in-0-to-3 c = same_whole c.args.a.now c.args.b.now c.if-a-b.false _ c.same_by_one.ensures
@@ -20,13 +19,3 @@ pub returns-then-same_sixteen : goal.returns-then-same_sixteen
 returns-then-same_sixteen c =
     let front = c.same_sixteen.ensures.0 c.if-same_sixteen.true in
     same_halves 16 c.args.a.now c.args.b.now c.if-a-b.false (omega arith) (omega arith) front _ c.same_sixteen-then-same_sixteen.ensures
-
-pub returns-then-same_sixteen-3 : goal.returns-then-same_sixteen-3
-returns-then-same_sixteen-3 c =
-    elim c.if-same_sixteen-2.branch [
-      | then-same_sixteen-2 w ↦
-          let front = c.same_sixteen-in-33-to-48.ensures.0 w.if-same_sixteen-2.true in
-          let middle = w.same_sixteen-then-same_sixteen-2.ensures.0 (cc (c.if-same_sixteen-3.true, w.value-is)) in
-          same_thirds 16 c.args.a.now c.args.b.now c.if-a-b.false (omega arith) (omega arith) front middle _ c.same_sixteen-then-same_sixteen-3.ensures
-      | else-same_sixteen-2 w ↦ cc (c.if-same_sixteen-3.true, w.value-is)
-    ]

@@ -16,5 +16,5 @@ returns-then-not-is_empty-clause-answer c =
 pub returns-clause-few : goal.returns-clause-few
 returns-clause-few c =
     let read = c.self.inside.read in
-    let count = length-calls_with c.forget_labels.new.self.items read.store.numbers.items read.lines.items in
+    let count = length-calls_with read.store.bytes.items read.store.numbers.items read.lines.items in
     omega (arith, count, read.lines.ok, read.lines.small)

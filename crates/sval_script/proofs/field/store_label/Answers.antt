@@ -4,7 +4,7 @@ use Rattle.sval_script.specs.Lines.{cut_at, text}
 use Rattle.sval_script.specs.Tags.{tag_of}
 use Rattle.sval_script.proofs.FieldParts.{tagged_none, tagged_some, labelled, none_from, some_from}
 use Rattle.sval_script.specs.declared.field.LineError.TheVariants.{Bad}
-use Rattle.sval_script.proofs.field.decode_label.Goals as goal
+use Rattle.sval_script.proofs.field.store_label.Goals as goal
 
 pub returns-in_err-part-clause-bad : goal.returns-in_err-part-clause-bad
 returns-in_err-part-clause-bad c _ = tagged_none text labelled (cut_at 58 c.args.field.now) c.split_tag.result c.split_tag.ensures (none_from c.split_tag.result _ c.in_err-part.ensures.value)
