@@ -48,7 +48,7 @@ pub record NeedsMemory (calls : List Call) : Type 0 where
   pub viable : IsViable (front ++ (call ∷ []))
   pub opens : has_own_end call ≡ true
 
--- why a stream that stood there isn't given back: this isn't one whole value, or the stream stopped it, or memory was wanting
+-- why a stream that stood at old isn't given back: the value isn't one whole value, or by the stream's law it may stop, or one of its calls needs memory
 abbrev pub HasCauseInto : {V : Type 0} → Law V → Standing V → Emission → Type 0
 HasCauseInto {V} law old e = (IsOneValue e → ⊥) ⊎ (((new : Standing V) × Stops law old e new) ⊎ NeedsMemory e.calls)
 

@@ -1,11 +1,19 @@
 //! Checks whether calls spell one whole value, or a list of them.
 //!
-//! [`check`] streams a value into a machine with a stack, which takes the calls that can still be completed and no
-//! others. Its definitions are in `specs/Checks.antt`. [`check_into`] does so on the way to another stream. [`check_all`]
-//! checks values one after another, and gives where each of them ends. Its definitions are in `specs/ManyChecks.antt`.
-//! [`Checked`] puts the same machine before the caller's stream. Its law is in `specs/Checked.antt`. All four use
-//! [`Machine`]. Its step is in two parts, and its definitions are in `specs/Dues.antt`. [`TokenBuf`] keeps calls as
-//! [`Token`]s, so that a test can compare them. Its law is in `specs/TokenBufs.antt`.
+//! | use | where | defined in |
+//! |---|---|---|
+//! | [`check`] | you ask whether a value is one whole value, and if not, why | `specs/Checks.antt` |
+//! | [`check_into`] | you check a value and pass it on in one pass, into a stream that is used once | `specs/Checks.antt` |
+//! | [`check_all`] | a value's calls are a list of values, and you need to know where each ends | `specs/ManyChecks.antt` |
+//! | [`Checked`] | a stream around yours refuses bad calls, and stays usable after a refusal | `specs/Checked.antt` |
+//! | [`Machine`] | your own stream checks call by call, and passes on other calls than those that it takes | `specs/Dues.antt` |
+//! | `collect_whole` of `sval_whole` | you capture a value, and check it on the way | that crate |
+//!
+//! [`Machine`] has a stack. It takes the calls that can still be completed, and no others. The functions and streams
+//! above all check by it. [`check`], [`check_into`] and [`check_all`] go on with each call by one step. [`Checked`] goes
+//! by the two parts of a step, since its inner stream may refuse the call between them.
+//!
+//! [`TokenBuf`] keeps calls as [`Token`]s, so that a test can compare them. Its law is in `specs/TokenBufs.antt`.
 #![tactic(auto)]
 
 ghost use Rattle.std.specs.Prelude.{◌≡◌, ◌⊎◌, ℕ, Err, IfNone, IfOk, IfSome, OnOk, OnSome};
@@ -116,18 +124,25 @@ fn check_calls<'v, V: Value<'v, Lent<'v>>>(alloc: Global, value: &'v V) -> Resul
 /// Streams a value into a stream, and checks its calls on the way, in one pass.
 ///
 /// It gives the stream back only where the value's calls are one whole value, the value doesn't refuse, and the stream
-/// took all of its calls. That is what [`check`] and then streaming the value would find in two passes.
+/// took all of its calls.
 ///
-/// Else it gives nothing back. The stream, which may have taken a first part of the calls, is dropped. The cause is that
-/// the value isn't one whole value, that the stream refused a call, or that memory was wanting for a call that begins
-/// something. It isn't told: [`check`] tells what is wrong with the value.
+/// `None` comes where the value refuses or isn't one whole value, where the stream refused a call, and where memory was
+/// wanting for a call that begins something. So a value without a fault may give `None` too. The cause isn't told.
+/// [`check`] tells what is wrong with the value. It may answer `Ok`: the stream refused a call then, or memory was
+/// wanting.
+///
+/// With `None` the stream is dropped. What it wrote elsewhere before that stays. Lend `&mut writer` to keep the writer,
+/// and to ask it for its own cause.
 ///
 /// A value that is surely whole ([`is_surely_whole`]) is asked, as by [`check`], and then streamed without a check.
 ///
 /// ```
 /// match check_into(alloc, &value, ValueBuf::new(alloc)) {
-///     Some(captured) => stream.value(&captured)?,
-///     None => println!(rt; "no whole value, or no memory")?,
+///     Some(captured) => println!(rt; "{}", stream_to_string(alloc, &captured)?.as_str())?,
+///     None => match check(alloc, &value) {
+///         Ok(()) => println!(rt; "no memory")?,
+///         Err(why) => println!(rt; "{why}")?,
+///     },
 /// }
 /// ```
 pub fn check_into<'v, V: Value<'v, Lent<'v>>, S: Stream<Lent<'v>> + Drop>(

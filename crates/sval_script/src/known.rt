@@ -178,7 +178,7 @@ impl KnownLines {
         self.find_at(self.expected, script)
     }
 
-    /// The same of the line that is expected else.
+    /// What the line that is expected else says and how long it is, if a script begins with it.
     #[inline(always)]
     pub(crate) fn find_other(&mut self, script: &[u8]) -> Option<(KeptLine, usize)>
         ensures within { IfSome result (λ found. found.1 ≤ length script.now) }

@@ -1,5 +1,8 @@
-//! The steps of calls that aren't compiled into the loop that makes the calls: those with names, which come here by
-//! their parts, since those are passed in registers, and the rarer ones.
+//! The steps of calls that have functions of their own, so that [`Machine::step`] stays small.
+//!
+//! Calls with names and rarer calls are never compiled into the loop that makes the calls. Names come here by their
+//! parts, since those are passed in registers. For the begins and ends of texts, the ends of sequences and their items,
+//! the compiler decides.
 
 ghost use Rattle.std.specs.Prelude.{true, false};
 ghost use Rattle.sval_label.specs.Calls as call;
@@ -138,12 +141,27 @@ impl Machine {
         self.fill(Form::Variant)
     }
 
+    /// Takes a text's begin.
+    pub(super) fn open_text(&mut self, size: Option<usize>) -> Result<(), Refusal>
+        ensures { let begun = Begin.Text size in
+            StepsTo true (begin (begun_form begun) (begun_frame begun) self.old) self.new result }
+    {
+        self.open(Begin::Text(size))
+    }
+
     /// Takes `size` bytes of a text.
     #[inline(never)]
     pub(super) fn add_text(&mut self, size: usize) -> Result<(), Refusal>
         ensures { StepsTo false (at_top (content_fragment Content.Text size) self.old) self.new result }
     {
         self.add(Content::Text, size)
+    }
+
+    /// Takes a text's end.
+    pub(super) fn close_text(&mut self) -> Result<(), Refusal>
+        ensures { StepsTo false (at_top (content_end Content.Text) self.old) self.new result }
+    {
+        self.close_content(Content::Text)
     }
 
     /// Takes a binary's begin.

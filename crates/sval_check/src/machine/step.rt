@@ -1,7 +1,8 @@
 //! The machine's step as a whole, for streams where nothing else may refuse a call.
 //!
 //! It is compiled into the loop that makes the calls, so that each kind of call comes to what it needs alone. So it has
-//! to stay small: calls with names, and rarer calls, have functions of their own (`apart.rt`).
+//! to stay small: calls with names, rarer calls, and some calls of texts and sequences have functions of their own
+//! (`apart.rt`).
 
 ghost use Rattle.std.specs.Prelude.{true, false};
 ghost use Rattle.sval_label.specs.Made.{call_of};
@@ -38,12 +39,12 @@ impl Machine {
             }
             GroupedCall::Tag(_) => self.fill_variant(),
             GroupedCall::TagHint(_) => Ok(()),
-            GroupedCall::TextBegin(size) => self.open(Begin::Text(size)),
+            GroupedCall::TextBegin(size) => self.open_text(size),
             GroupedCall::TextFragment(Fragment::Borrowed(text)) => {
                 self.add_text(L::text_len(text))
             }
             GroupedCall::TextFragment(Fragment::Computed(text)) => { self.add_text(text.len()) }
-            GroupedCall::TextEnd => self.close_content(Content::Text),
+            GroupedCall::TextEnd => self.close_text(),
             GroupedCall::BinaryBegin(size) => self.open_binary(size),
             GroupedCall::BinaryFragment(Fragment::Borrowed(bytes)) => {
                 self.add_binary(L::bytes_len(bytes))
