@@ -133,6 +133,58 @@ null
 record_value_end - =6171
 = bad-call 4
 
+# Lines that come again with other values, and others in their place.
+seq_begin 5
+seq_value_begin
+record_tuple_begin - =41 - 1
+record_tuple_value_begin - =61 7:VALUE_OFFSET
+u64 1
+record_tuple_value_end - =61 7:VALUE_OFFSET
+record_tuple_end - =41 -
+seq_value_end
+seq_value_begin
+record_tuple_begin - =41 - 1
+record_tuple_value_begin - =61 7:VALUE_OFFSET
+u64 2
+record_tuple_value_end - =61 7:VALUE_OFFSET
+record_tuple_end - =41 -
+seq_value_end
+seq_value_begin
+record_tuple_begin - =41 - 1
+record_tuple_value_begin - =62 8:VALUE_OFFSET
+u64 3
+record_tuple_value_end - =62 8:VALUE_OFFSET
+record_tuple_end - =41 -
+seq_value_end
+seq_value_begin
+record_tuple_begin - =41 - 1
+record_tuple_value_begin - =61 7:VALUE_OFFSET
+u64 4
+record_tuple_value_end - =61 7:VALUE_OFFSET
+record_tuple_end - =41 -
+seq_value_end
+seq_value_begin
+record_tuple_begin - =41 - 1
+record_tuple_value_begin - =62 7:VALUE_OFFSET
+u64 5
+record_tuple_value_end - =62 7:VALUE_OFFSET
+record_tuple_end - =41 -
+seq_value_end
+seq_end
+= json [{"a":1},{"a":2},{"b":3},{"a":4},{"b":5}]
+seq_begin -
+seq_value_begin
+null
+seq_value_end
+seq_value_begin
+null
+seq_value_end
+seq_value_begin
+null
+seq_value_end
+seq_value_begin 
+= bad-line 11
+
 # Fields of named calls.
 tag - -
 = bad-line 1
