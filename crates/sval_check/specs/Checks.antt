@@ -29,7 +29,7 @@ pub record IsUnfinished (e : Emission) : Type 0 where
   pub willing : e.refuses ≡ false
   pub no_tree : (tree : Tree) → Spells e.calls tree → ⊥
 
--- these calls begin what has an end of its own, and so need memory
+-- these calls begin what has an end of its own, and so may need memory
 abbrev pub has_own_end : Call → Bool
 has_own_end (TextBegin _) = true
 has_own_end (BinaryBegin _) = true
@@ -39,7 +39,7 @@ has_own_end (Begin _ _) = true
 has_own_end (PartBegin _) = true
 has_own_end _ = false
 
--- one of the calls needs memory, and with it and those before it the calls can be completed
+-- one of the calls may need memory, and with it and those before it the calls can be completed
 pub record NeedsMemory (calls : List Call) : Type 0 where
   pub front : List Call
   pub call : Call
@@ -48,7 +48,7 @@ pub record NeedsMemory (calls : List Call) : Type 0 where
   pub viable : IsViable (front ++ (call ∷ []))
   pub opens : has_own_end call ≡ true
 
--- why a stream that stood at old isn't given back: the value isn't one whole value, or by the stream's law it may stop, or one of its calls needs memory
+-- why a stream that stood at old isn't given back: the value isn't one whole value, or by the stream's law it may stop, or one of its calls may need memory
 abbrev pub HasCauseInto : {V : Type 0} → Law V → Standing V → Emission → Type 0
 HasCauseInto {V} law old e = (IsOneValue e → ⊥) ⊎ (((new : Standing V) × Stops law old e new) ⊎ NeedsMemory e.calls)
 

@@ -48,7 +48,7 @@ pub record EndsTree (front : List Call) (call : Call) : Type 0 where
   pub trees : List Tree
   pub spells : SpellsAll (front ++ (call ∷ [])) trees
 
--- one of the calls needs memory, as it begins something or ends a tree, and with it and those before it the calls can be completed
+-- one of the calls may need memory, as it begins something or ends a tree, and with it and those before it the calls can be completed
 pub record NeedsMemoryOfList (calls : List Call) : Type 0 where
   pub front : List Call
   pub call : Call

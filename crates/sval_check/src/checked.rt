@@ -8,7 +8,8 @@ ghost use Rattle.sval_core.specs.Law.{Answers};
 ghost use Rattle.sval_core.specs.CheckerSteps.{unfilled, is_whole_tree};
 ghost use Rattle.sval_core.specs.Spells.{Spells};
 ghost use Rattle.sval_core.specs.Trees.{Tree};
-ghost use Rattle.sval_check.specs.Checked.{CheckedView, PassesCall, StandsFor, checked_law, checked_standing, inner_of, last_why, own_wants, seen, state_of, wants_after};
+ghost use Rattle.sval_check.specs.Checked.{CheckedView, PassesCall, StandsFor, checked_law, checked_standing};
+ghost use Rattle.sval_check.specs.Checked.{inner_of, last_why, own_wants, seen, state_of, wants_after};
 
 use crate::machine::{Machine, Refusal};
 use std::alloc::Global;

@@ -4,7 +4,8 @@ ghost use Rattle.std.specs.Prelude.{◌≡◌};
 ghost use Rattle.sval_label.specs.Made.{call_of};
 ghost use Rattle.sval_core.specs.Law.{Answers};
 ghost use Rattle.sval_core.specs.CheckerSteps.{is_whole_tree};
-ghost use Rattle.sval_check.specs.Checking.{Checking, checking, checking_law, checking_standing, nothing_checked, StepsOrRefuses, stop_by};
+ghost use Rattle.sval_check.specs.Checking.{Checking, checking, checking_law, checking_standing};
+ghost use Rattle.sval_check.specs.Checking.{nothing_checked, StepsOrRefuses, stop_by};
 
 use crate::error::CheckError;
 use crate::machine::{Machine, Refusal};

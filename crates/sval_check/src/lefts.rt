@@ -6,25 +6,26 @@ ghost use Rattle.sval_check.specs.Frames.{innermost_left};
 ghost use Rattle.sval_check.specs.Tops.{advanced, is_container_top, lefts_after, lefts_after_around, on_top, under_top};
 
 use crate::frame::Frame;
+use crate::left::Left;
 
 /// What is still to come of the innermost text, binary or container, if its size was given.
 #[inline(always)]
-pub(crate) fn innermost_left(lefts: &[Option<usize>]) -> Option<usize>
+pub(crate) fn innermost_left(lefts: &[Left]) -> Option<usize>
     ensures { result ≡ innermost_left (reverse lefts.now) }
 {
     match lefts.last() {
-        Some(left) => *left,
+        Some(left) => left.get(),
         None => None,
     }
 }
 
 /// Puts what is still to come of the innermost text, binary or container.
 #[inline(always)]
-pub(crate) fn put_left(lefts: &mut [Option<usize>], left: Option<usize>)
+pub(crate) fn put_left(lefts: &mut [Left], left: Option<usize>)
     ensures { reverse lefts.new ≡ on_top (λ _. left) (reverse lefts.old) }
 {
     if let Some(innermost) = lefts.last_mut() {
-        *innermost = left;
+        *innermost = Left::new(left);
     }
 }
 
@@ -47,7 +48,7 @@ fn advance_frame(frames: &mut [Frame]) -> bool
 /// Puts a part into the innermost frame, where it is a container. `left` is the number of its entries that are still to
 /// come after the part.
 #[inline(always)]
-pub(crate) fn advance(frames: &mut [Frame], lefts: &mut [Option<usize>], left: Option<usize>)
+pub(crate) fn advance(frames: &mut [Frame], lefts: &mut [Left], left: Option<usize>)
     ensures frames { reverse frames.new ≡ on_top advanced (reverse frames.old) }
     ensures lefts { reverse lefts.new ≡ lefts_after left (reverse frames.old) (reverse lefts.old) }
 {
@@ -58,7 +59,7 @@ pub(crate) fn advance(frames: &mut [Frame], lefts: &mut [Option<usize>], left: O
 
 /// Puts a part into the frame around the innermost one, where it is a container. `left` is the number of its entries
 /// that are still to come after the part.
-pub(crate) fn advance_around(frames: &mut [Frame], lefts: &mut [Option<usize>], left: Option<usize>)
+pub(crate) fn advance_around(frames: &mut [Frame], lefts: &mut [Left], left: Option<usize>)
     ensures frames { reverse frames.new ≡ under_top (on_top advanced) (reverse frames.old) }
     ensures lefts { reverse lefts.new ≡ lefts_after_around left (reverse frames.old) (reverse lefts.old) }
 {
@@ -72,7 +73,7 @@ pub(crate) fn advance_around(frames: &mut [Frame], lefts: &mut [Option<usize>], 
 }
 
 /// Puts a part into the innermost of these frames, where it is a container, around another whose rest is the innermost.
-fn advance_under(frames: &mut [Frame], lefts: &mut [Option<usize>], left: Option<usize>)
+fn advance_under(frames: &mut [Frame], lefts: &mut [Left], left: Option<usize>)
     ensures frames { reverse frames.new ≡ on_top advanced (reverse frames.old) }
     ensures lefts { reverse lefts.new ≡ under_top (lefts_after left (reverse frames.old)) (reverse lefts.old) }
 {
@@ -86,7 +87,7 @@ fn advance_under(frames: &mut [Frame], lefts: &mut [Option<usize>], left: Option
 
 /// Takes off what is still to come of the innermost frame, where that is kept.
 #[inline(always)]
-pub(crate) fn take_left(lefts: &mut Vec<Option<usize>>, has_left: bool)
+pub(crate) fn take_left(lefts: &mut Vec<Left>, has_left: bool)
     ensures { reverse lefts.new.items ≡ below_if has_left (reverse lefts.old.items) }
 {
     if has_left {

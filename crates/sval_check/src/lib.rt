@@ -10,15 +10,17 @@
 //! | `collect_whole` of `sval_whole` | you capture a value, and check it on the way | that crate |
 //!
 //! [`Machine`] has a stack. It takes the calls that can still be completed, and no others. The functions and streams
-//! above all check by it. [`check`], [`check_into`] and [`check_all`] go on with each call by one step. [`Checked`] goes
-//! by the two parts of a step, since its inner stream may refuse the call between them.
+//! above check by it, with one exception: [`check`] and [`check_into`] check no call of a value that is surely whole
+//! ([`is_surely_whole`]). Otherwise these two and [`check_all`] go on with each call by one step. [`Checked`] goes by
+//! the two parts of a step, since its inner stream may refuse the call between them.
 //!
 //! [`TokenBuf`] keeps calls as [`Token`]s, so that a test can compare them. Its law is in `specs/TokenBufs.antt`.
 #![tactic(auto)]
 
 ghost use Rattle.std.specs.Prelude.{◌≡◌, ◌⊎◌, ℕ, Err, IfNone, IfOk, IfSome, OnOk, OnSome};
 ghost use Rattle.sval_core.specs.Law.{Streams};
-ghost use Rattle.sval_check.specs.Checks.{IsOneValue, IsFirstBadCall, OnlyRefuses, IsUnfinished, NeedsMemory, HasCauseInto, CheckAnswer, IsCheckDue};
+ghost use Rattle.sval_check.specs.Checks.{IsOneValue, IsFirstBadCall, OnlyRefuses, IsUnfinished, NeedsMemory};
+ghost use Rattle.sval_check.specs.Checks.{HasCauseInto, CheckAnswer, IsCheckDue};
 ghost use Rattle.sval_check.specs.ManyChecks.{AreValues, IsFirstBadOfList, OnlyRefusesList, IsUnfinishedList};
 ghost use Rattle.sval_check.specs.ManyChecks.{NeedsMemoryOfList, ListAnswer, IsDueOfList};
 

@@ -10,12 +10,12 @@ ghost use Rattle.sval_core.specs.SameNames.{same_name};
 ghost use Rattle.sval_core.specs.Stacks.{top_of, below};
 ghost use Rattle.sval_check.specs.Kept.{value_frame, innermost_name, with_name};
 ghost use Rattle.sval_check.specs.Frames.{begun_frame, innermost_left, seen_form};
-ghost use Rattle.sval_check.specs.Tops.{is_tagged, is_enum, is_slot, may_end_with, content_ends, content_rest, part_rest};
-ghost use Rattle.sval_check.specs.Tops.{with_left, after_part, under_top};
+ghost use Rattle.sval_check.specs.Tops.{is_tagged, is_enum, is_slot, may_end_with, content_ends, content_rest};
+ghost use Rattle.sval_check.specs.Tops.{part_rest, with_left, after_part, under_top};
 
 use crate::frame::{Begin, Content, Form, Frame};
 use crate::kept::{NameParts, NamedValue, may_hold, same_tag};
-use crate::left::{is_used_up, take_off};
+use crate::left::{Left, is_used_up, take_off};
 use crate::lefts::{advance, advance_around, innermost_left, put_left, take_left};
 use crate::names::Names;
 use std::alloc::Global;
@@ -27,7 +27,7 @@ use sval_core::{Head, Index, Label, Name, NoMemory, Slot, Tag};
 pub(crate) struct Stack {
     frames: Vec<Frame>,
     /// What is still to come of each text, binary and container among them, if its size was given.
-    lefts: Vec<Option<usize>>,
+    lefts: Vec<Left>,
     /// What those frames that are named began with.
     names: Names,
 }
@@ -54,7 +54,7 @@ fn innermost(frames: &[Frame]) -> Option<Frame>
 
 /// The innermost frame is a container with a name, which has these parts, and may end with this name.
 #[inline(always)]
-fn named_ends(names: &Names, lefts: &[Option<usize>], parts: NameParts, name: Name<'_>) -> bool
+fn named_ends(names: &Names, lefts: &[Left], parts: NameParts, name: Name<'_>) -> bool
     ensures { result ≡ (same_name (seen_name name.entry) (innermost_name parts names.now)
         && is_used_up (innermost_left (reverse lefts.now))) }
 {
@@ -241,7 +241,7 @@ impl Stack {
         ensures { self.new ≡ (if is_ok result then begun_frame begin ∷ self.old else self.old) }
     {
         self.frames.reserve(1)?;
-        self.lefts.push(begin.size())?;
+        self.lefts.push(Left::new(begin.size()))?;
         self.frames.push_reserved(begin.frame());
         Ok(())
     }
@@ -265,7 +265,7 @@ impl Stack {
         }
         self.lefts.reserve(1)?;
         push_frame(&mut self.frames, &mut self.names, frame, tag, label, index)?;
-        self.lefts.push_reserved(left);
+        self.lefts.push_reserved(Left::new(left));
         Ok(())
     }
 

@@ -1,8 +1,8 @@
 //! The steps of calls that have functions of their own, so that [`Machine::step`] stays small.
 //!
-//! Calls with names and rarer calls are never compiled into the loop that makes the calls. Names come here by their
-//! parts, since those are passed in registers. For the begins and ends of texts, the ends of sequences and their items,
-//! the compiler decides.
+//! Calls with names, fragments of texts, and rarer calls are never compiled into the loop that makes the calls. Names
+//! come here by their parts, since those are passed in registers. For the begins and ends of texts, the ends of
+//! sequences and their items, the compiler decides.
 
 ghost use Rattle.std.specs.Prelude.{true, false};
 ghost use Rattle.sval_label.specs.Calls as call;

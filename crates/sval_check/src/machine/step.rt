@@ -10,7 +10,8 @@ ghost use Rattle.sval_label.specs.SeenName.{seen_name};
 ghost use Rattle.sval_label.specs.Grouped.{seen_head, seen_slot};
 ghost use Rattle.sval_core.specs.Trees.{first_kind, plain_head, plain_name};
 ghost use Rattle.sval_core.specs.Checker.{InContainer};
-ghost use Rattle.sval_core.specs.CheckerSteps.{Variant, at_top, begin, end, form_of_head, next, part_begin, part_end, value};
+ghost use Rattle.sval_core.specs.CheckerSteps.{Variant, at_top, begin, end, form_of_head, next};
+ghost use Rattle.sval_core.specs.CheckerSteps.{part_begin, part_end, value};
 ghost use Rattle.sval_check.specs.Checks.{has_own_end};
 ghost use Rattle.sval_check.specs.Kept.{value_frame};
 ghost use Rattle.sval_check.specs.Frames.{begun_form, begun_frame, seen_form};
@@ -23,8 +24,8 @@ use crate::machine::{Machine, Refusal};
 use sval_core::{AnyCall, Fragment, GroupedCall, Head, Lending, Name, Slot, Tag};
 
 impl Machine {
-    /// Goes on with a call, or says why it doesn't: [`Machine::ready`] and [`Machine::finish`] at once, for a stream that
-    /// ends with the first refusal. A refused call may leave a part counted that didn't come.
+    /// Goes on with a call, or says why it doesn't: [`Machine::ready`] and [`Machine::finish`] at once, for a stream
+    /// that ends with the first refusal. A refused call may leave a part counted that didn't come.
     ///
     /// - [`Refusal::NotViable`] comes exactly where no value goes on with the call.
     /// - [`Refusal::NoMemory`] comes only where one does, and memory was wanting for what the call begins.

@@ -20,7 +20,8 @@ returns c =
     let inside = c.self.inside in
     let name = plain_name (seen_name c.args.name) in
     let frames = c.in_ok-push_frame-2.ensures.frames ∙ ap (λ frame. inside.frames.items ++ (frame ∷ [])) (c.named-frame.ensures ∙ ap (named_frame c.args.value) c.of.ensures) in
-    let lefts = c.push_reserved.ensures.items ∙ ap (λ lefts. lefts ++ (c.args.left ∷ [])) c.reserve.ensures.items in
+    let lefts = c.push_reserved.ensures.items ∙ ap (λ lefts. lefts ++ (c.new.result ∷ [])) c.reserve.ensures.items
+    ∙ ap (λ left. inside.lefts.items ++ (left ∷ [])) c.new.ensures in
     let is : is_container_value c.args.value ≡ true = cc (c.is_container.ensures, c.if-not-is_container.false) in
     container_opened c.args.value name c.args.left inside.frames.items _ inside.lefts.items _ inside.names _ frames lefts c.in_ok-push_frame-2.ensures.names is
     ∙ ap (λ around. value_frame c.args.value name c.args.left ∷ around) c.self.view_is
