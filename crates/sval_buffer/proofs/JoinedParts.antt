@@ -1,5 +1,5 @@
 -- What a text or a binary of the program holds when a fragment was put behind it.
-use Rattle.std.specs.Prelude.{◌≡◌, ℕ, zero, suc, ◌-◌, ◌≤◌, List, [], ◌∷◌, ◌++◌, length, take, drop, slice_range, refl}
+use Rattle.std.specs.Prelude.{◌≡◌, ℕ, ◌-◌, ◌≤◌, List, [], ◌++◌, length, take, drop, slice_range, refl}
 use Rattle.std.proofs.Common.{sym, ap, ◌∙◌, subst, arith, append-nil, length-append}
 use Rattle.std.proofs.lemmas.Str.{IsUtf8-append, IsUtf8-nil}
 use mathlib.Core.List.{append_assoc}
@@ -9,6 +9,7 @@ use Rattle.sval_buffer.specs.declared.part.Medium.{Medium}
 use Rattle.sval_buffer.specs.declared.part.Medium.TheVariants as media
 use Rattle.sval_buffer.specs.declared.part.Part.TheVariants as part
 use Rattle.sval_buffer.specs.SeenParts.{of_medium, copied_bytes, HoldsBytes, Suits}
+use Rattle.sval_buffer.proofs.Ranges.{drop-front, take-all, length-dropped}
 
 pub suits_both : (medium : Medium) (xs ys : List ℕ) → Suits medium xs → Suits medium ys → Suits medium (xs ++ ys)
 suits_both media.Text xs ys s t = IsUtf8-append xs ys s t
@@ -30,20 +31,6 @@ grows_twice {s} {t} {u} g h = record {
   more = g.more ++ h.more;
   bytes = h.bytes ∙ ap (λ bs. bs ++ h.more) g.bytes ∙ append_assoc s.bytes g.more h.more;
 }
-
-drop-front : (xs ys : List ℕ) (a : ℕ) → a ≤ length xs → drop a (xs ++ ys) ≡ drop a xs ++ ys
-drop-front xs ys zero h = refl
-drop-front [] ys (suc a) h = absurd (omega arith)
-drop-front (x ∷ xs) ys (suc a) h = drop-front xs ys a (omega arith)
-
-take-all : (xs : List ℕ) → take (length xs) xs ≡ xs
-take-all [] = refl
-take-all (x ∷ xs) = ap (λ zs. x ∷ zs) (take-all xs)
-
-length-dropped : (xs : List ℕ) (a : ℕ) → length (drop a xs) ≡ length xs - a
-length-dropped xs zero = omega arith
-length-dropped [] (suc a) = omega arith
-length-dropped (x ∷ xs) (suc a) = let n = length-dropped xs a in omega arith
 
 -- all bytes from a place on
 pub range_to_end : (xs : List ℕ) (a b : ℕ) → b ≡ length xs → slice_range xs a b ≡ drop a xs

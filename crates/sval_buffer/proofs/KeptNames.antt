@@ -15,6 +15,7 @@ use Rattle.sval_buffer.specs.declared.kept.KeptLabel.{KeptLabel}
 use Rattle.sval_buffer.specs.declared.kept.NamedCall.{NamedCall}
 use Rattle.sval_buffer.specs.declared.named.NamedKind.{NamedKind}
 use Rattle.sval_buffer.specs.SeenNames.{HasName, kept_text, stored_label, stored_name, kept_call, TextStands, LabelStands, OptionStands, NameStands, AllStand, StoreGrows, named_call, call_at, KeepsNamedCall}
+use Rattle.sval_buffer.proofs.Ranges.{drop-front, take-all, length-dropped}
 
 pub grows_none : (xs : List ℕ) → StoreGrows xs xs
 grows_none xs = record { more = []; utf8 = IsUtf8-nil; new_is = sym (append-nil xs) }
@@ -42,20 +43,10 @@ boundary_more xs more i u (le, cut) = elim (order i (length xs)) [ inl h ↦ wit
     at_end : length xs ≤ i → IsCharBoundary (xs ++ more) i
     at_end h = let e : length xs ≡ i = omega arith in subst (IsCharBoundary (xs ++ more)) e (IsCharBoundary-at_seam (xs ++ more) xs more refl u)
 
-drop-front : (xs ys : List ℕ) (a : ℕ) → a ≤ length xs → drop a (xs ++ ys) ≡ drop a xs ++ ys
-drop-front xs ys zero h = refl
-drop-front [] ys (suc a) h = absurd (omega arith)
-drop-front (x ∷ xs) ys (suc a) h = drop-front xs ys a (omega arith)
-
 take-front : (xs ys : List ℕ) (n : ℕ) → n ≤ length xs → take n (xs ++ ys) ≡ take n xs
 take-front xs ys zero h = refl
 take-front [] ys (suc n) h = absurd (omega arith)
 take-front (x ∷ xs) ys (suc n) h = ap (λ zs. x ∷ zs) (take-front xs ys n (omega arith))
-
-length-dropped : (xs : List ℕ) (a : ℕ) → length (drop a xs) ≡ length xs - a
-length-dropped xs zero = omega arith
-length-dropped [] (suc a) = omega arith
-length-dropped (x ∷ xs) (suc a) = let n = length-dropped xs a in omega arith
 
 pub range_more : (xs more : List ℕ) (a b : ℕ) → a ≤ b → b ≤ length xs → slice_range (xs ++ more) a b ≡ slice_range xs a b
 range_more xs more a b h k =
@@ -105,10 +96,6 @@ new_stands xs ys more start end u e at to =
 drop-all : (xs ys : List ℕ) → drop (length xs) (xs ++ ys) ≡ ys
 drop-all [] ys = refl
 drop-all (x ∷ xs) ys = drop-all xs ys
-
-take-all : (xs : List ℕ) → take (length xs) xs ≡ xs
-take-all [] = refl
-take-all (x ∷ xs) = ap (λ zs. x ∷ zs) (take-all xs)
 
 pub new_text : (xs ys more : List ℕ) (start end : ℕ) → ys ≡ xs ++ more → start ≡ length xs → end ≡ length ys → kept_text ys (Stored start end) ≡ more
 new_text xs ys more start end e at to =

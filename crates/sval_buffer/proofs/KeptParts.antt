@@ -7,7 +7,6 @@ use Rattle.sval_buffer.specs.Pushes.{HeldBytes}
 use Rattle.sval_buffer.specs.Forest.{Node, Nodes, none, Container, Open, Forest, HoldsNoPart, empty_forest, add, begun, with_flag, close_newest, Becomes}
 use Rattle.sval_buffer.specs.Flat as flat
 use Rattle.sval_buffer.specs.Flat.{flat_part, flat_node}
-use Rattle.sval_buffer.specs.FlatForest.{FlatForest, open_places}
 use Rattle.sval_buffer.specs.Holders.{holders_node}
 use Rattle.sval_buffer.specs.Nested.{outer_of}
 use Rattle.sval_buffer.specs.SeenNames.{call_at, Extends}
@@ -94,10 +93,6 @@ pub grows_calls : {s t : SeenStores} → Extends s.calls t.calls → t.bytes ≡
 grows_calls {s} e same = record { calls = e; more = []; bytes = same ∙ sym (append-nil s.bytes) }
 
 -- ---- the steps
-
--- the last place, by two readings of the parts
-pub newest_again : {now was : FlatForest} {o : Option ℕ} → o ≡ slice_get now.places (length now.places - 1) → was ≡ now → o ≡ slice_get was.places (length was.places - 1)
-newest_again {o = o} newest same = subst (λ (view : FlatForest). o ≡ slice_get view.places (length view.places - 1)) (sym same) newest
 
 pub holds_nothing : Holds no_stores [] [] false empty_forest
 holds_nothing = record { is = is_nothing; kept = tt }
@@ -239,16 +234,9 @@ seen_length s parts = length-map parts (seen_part s)
 no_flat : (nodes : Nodes) (spine : List Open) → nodes ≡ none → spine ≡ [] → flat.flat_row nodes ++ flat.flat_spine spine ≡ []
 no_flat nodes spine e k = rw (e, k) refl
 
-no_places : (nodes : Nodes) (spine : List Open) → spine ≡ [] → open_places nodes spine ≡ []
-no_places nodes spine k = rw k refl
-
 -- a forest without a part is kept by no part
 pub no_part_kept : {s : SeenStores} {parts : List Part} {places : List ℕ} {within : Bool} {f : Forest} → Holds s parts places within f → HoldsNoPart f → parts ≡ []
 no_part_kept {s} {parts} {f = f} h bare =
     let e : map flat_part_of (seen_parts s parts) ≡ [] = (tells_it h.is).parts_are ∙ no_flat f.nodes f.spine bare.no_nodes bare.no_spine in
     let n : length (map flat_part_of (seen_parts s parts)) ≡ 0 = ap (λ xs. length xs) e in
     nothing parts (omega (arith, n, length-map (seen_parts s parts) flat_part_of, length-map parts (seen_part s)))
-
--- and by no place of a container without an end
-pub no_place_kept : {s : SeenStores} {parts : List Part} {places : List ℕ} {within : Bool} {f : Forest} → Holds s parts places within f → HoldsNoPart f → places ≡ []
-no_place_kept {f = f} h bare = (tells_it h.is).places_are ∙ no_places f.nodes f.spine bare.no_spine

@@ -62,10 +62,10 @@ begin_stays begin.Item size = refl
 begin_stays begin.Key size = refl
 begin_stays begin.Value size = refl
 
-call_stays : (calls : List Call) (at : ℕ) → call_at (map computed calls) at ≡ computed (call_at calls at)
-call_stays [] at = refl
-call_stays (call ∷ calls) zero = refl
-call_stays (call ∷ calls) (suc at) = call_stays calls at
+call_computed : (calls : List Call) (at : ℕ) → call_at (map computed calls) at ≡ computed (call_at calls at)
+call_computed [] at = refl
+call_computed (call ∷ calls) zero = refl
+call_computed (call ∷ calls) (suc at) = call_computed calls at
 
 held_owned : (medium : Medium) (held : HeldBytes) → owned_kind (of_medium medium held) ≡ owned_flat_kind (of_medium medium held)
 held_owned media.Text held = refl
@@ -75,11 +75,11 @@ module _ (s : SeenStores) (names : map computed s.calls ≡ s.calls) where
   kind_owned : (p : Part) → owned_kind (flat_kind s p) ≡ owned_flat_kind (flat_kind s p)
   kind_owned (part.Single holder single) = ap flat.One (single_stays single)
   kind_owned (part.Wide signed holder number) = ap flat.One (int_stays (wide_int signed number))
-  kind_owned (part.Named holder at) = ap flat.One (ap (λ cs. call_at cs at) (sym names) ∙ call_stays s.calls at)
+  kind_owned (part.Named holder at) = ap flat.One (ap (λ cs. call_at cs at) (sym names) ∙ call_computed s.calls at)
   kind_owned (part.Borrowed medium holder bytes) = held_owned medium (borrowed_bytes bytes.now)
   kind_owned (part.Stored medium holder start end) = held_owned medium (copied_bytes _)
   kind_owned (part.Container b holder size holds) = ap flat.Holder (begin_stays b size)
-  kind_owned (part.NamedContainer holder at holds) = ap flat.Holder (ap (λ cs. call_at cs at) (sym names) ∙ call_stays s.calls at)
+  kind_owned (part.NamedContainer holder at holds) = ap flat.Holder (ap (λ cs. call_at cs at) (sym names) ∙ call_computed s.calls at)
 
   stored_owned : (parts : List Part) → map flat_part_of (map owned_part (seen_parts s parts)) ≡ map owned_flat (map flat_part_of (seen_parts s parts))
   stored_owned [] = refl

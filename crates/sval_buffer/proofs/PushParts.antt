@@ -1,5 +1,5 @@
 -- A fragment that is pushed into the parts of the program.
-use Rattle.std.specs.Prelude.{◌≡◌, ℕ, zero, suc, ◌-◌, ◌<◌, Bool, true, false, List, [], ◌∷◌, ◌++◌, length, map, Result, Err, refl, slice_index_or, slice_set}
+use Rattle.std.specs.Prelude.{◌≡◌, ℕ, zero, suc, ◌-◌, ◌<◌, Bool, true, false, List, [], ◌∷◌, ◌++◌, length, map, Option, Result, Err, refl, slice_index_or, slice_set}
 use Rattle.std.proofs.Common.{sym, ap, ◌∙◌, subst, arith}
 use Rattle.std.proofs.lemmas.List.{map-append}
 use Rattle.sval_buffer.specs.Pushes.{HeldBytes}
@@ -9,10 +9,11 @@ use Rattle.sval_buffer.specs.declared.error.ErrorKind.{ErrorKind}
 use Rattle.sval_buffer.specs.declared.part.Medium.{Medium}
 use Rattle.sval_buffer.specs.declared.part.Part.{Part}
 use Rattle.sval_buffer.specs.SeenStores.{SeenStores, Grows}
-use Rattle.sval_buffer.specs.SeenParts.{seen_part, seen_parts, told, IsKept, AllKept, FragmentPushes, PartsTell}
+use Rattle.sval_buffer.specs.SeenParts.{seen_part, seen_parts, places_around, told, IsKept, AllKept, FragmentPushes, PartsTell}
 use Rattle.sval_buffer.proofs.Steps.{Is}
 use Rattle.sval_buffer.proofs.PushSteps.{EndsIn, ends_in, set-last, pushes_by, pushes_nothing}
 use Rattle.sval_buffer.proofs.KeptParts.{Holds, tell, seen_length, kept_append, kept_get, parts_stay}
+use Rattle.sval_buffer.proofs.KeptPlaces.{still_newest}
 
 -- the parts are now those of another forest, as the answer says
 pub record HoldsBy (s : SeenStores) (parts : List Part) (places : List ℕ) (within : Bool) (f : Forest) (grows : Bool) (answer : CaptureAnswer) (r : Result (Unit {0}) ErrorKind) : Type 0 where
@@ -27,6 +28,11 @@ told_by {f = f} {grows = grows} {answer = answer} {r = r} h = subst (λ (g : For
 pub tells_by : {s : SeenStores} {parts : List Part} {places : List ℕ} {within : Bool} {f : Forest} {grows : Bool} {answer : CaptureAnswer} {r : Result (Unit {0}) ErrorKind}
     → HoldsBy s parts places within f grows answer r → PartsTell s parts places within
 tells_by h = tell h.holds
+
+-- the same by the newest container without an end, which a fragment leaves as it is
+pub by_newest : (s : SeenStores) (parts : List Part) {t : SeenStores} {now : List Part} {within : Bool} {f : Forest} {grows : Bool} {answer : CaptureAnswer} {r : Result (Unit {0}) ErrorKind} (newest : Option ℕ)
+    → HoldsBy t now (places_around (seen_parts s parts) newest) within f grows answer r → HoldsBy t now (places_around (seen_parts t now) newest) within f grows answer r
+by_newest s parts newest h = record { next = h.next; holds = still_newest s parts newest h.holds; answers = h.answers }
 
 is_zero : (n : ℕ) → (0 < n → false ≡ true) → n ≡ 0
 is_zero zero none = refl

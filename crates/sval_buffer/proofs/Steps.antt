@@ -1,5 +1,5 @@
 -- Each step of a forest on the parts of the program.
-use Rattle.std.specs.Prelude.{◌≡◌, ℕ, suc, ◌+◌, ◌-◌, ◌<◌, ◌^◌, zero, Bool, true, false, List, [], ◌∷◌, ◌++◌, length, map, Option, Some, None, IfSome, Result, Ok, Err, is_ok, if◌then◌else◌, not, refl, slice_set, slice_get, slice_index_or}
+use Rattle.std.specs.Prelude.{◌≡◌, ℕ, suc, ◌+◌, ◌-◌, ◌<◌, zero, Bool, true, false, List, [], ◌∷◌, ◌++◌, length, map, Option, Some, None, Result, Ok, Err, is_ok, if◌then◌else◌, not, refl, slice_set, slice_get, slice_index_or}
 use Rattle.std.proofs.Common.{sym, ap, ◌∙◌, subst, arith, length-append}
 use Rattle.std.proofs.lemmas.List.{map-append, length-map}
 use mathlib.Core.List.{append_assoc}
@@ -192,23 +192,6 @@ place_within {parts} {places} {within} {f} rest place is e =
     let own = flat_part (flat.Holder n.newest.begin) 0 ∷ flat_row n.newest.nodes in
     let size : length parts ≡ length (front ++ own) = length-parts is ∙ ap (λ spine. length (flat_row f.nodes ++ flat_spine spine)) n.spine_is ∙ ap (λ xs. length xs) (flat-split f.nodes n.newest n.older) in
     omega (arith, size, n.place_is, length-append front own)
-
-newest_below : (nodes : Nodes) (spine : List Open) → IfSome (newest_place nodes spine) (λ at. at < length (flat_row nodes ++ flat_spine spine))
-newest_below nodes [] = tt
-newest_below nodes (newest ∷ older) =
-    let own = flat_part (flat.Holder newest.begin) 0 ∷ flat_row newest.nodes in
-    omega (arith, ap (λ xs. length xs) (flat-split nodes newest older), length-append (flat_row nodes ++ flat_spine older) own)
-
-fits_below : {n m : ℕ} (o : Option ℕ) → n ≡ m → n < 2 ^ 64 → IfSome o (λ at. at < m) → IfSome o (λ at. at + 1 < 2 ^ 64)
-fits_below None e h below = tt
-fits_below (Some at) e h below = omega arith
-
--- its place has room for one more than it
-pub place_fits : {parts : List SeenPart} {places : List ℕ} {within : Bool} {f : Forest} (o : Option ℕ) → Is parts places within f → o ≡ slice_get places (length places - 1) → length parts < 2 ^ 64
-    → IfSome o (λ at. at + 1 < 2 ^ 64)
-place_fits {f = f} o is e size =
-    let place = e ∙ ap (λ (qs : List ℕ). slice_get qs (length qs - 1)) (tells_it is).places_are ∙ last-place f.nodes f.spine in
-    fits_below o (length-parts is) size (subst (λ p. IfSome p (λ at. at < length (flat.flat f))) (sym place) (newest_below f.nodes f.spine))
 
 pub map-set : {X Y : Type 0} (g : X → Y) (xs : List X) (i : ℕ) (y : X) → map g (slice_set xs i y) ≡ slice_set (map g xs) i (g y)
 map-set g [] i y = refl

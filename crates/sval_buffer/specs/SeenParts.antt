@@ -1,5 +1,5 @@
 -- What the parts of the program are.
-use Rattle.std.specs.Prelude.{◌≡◌, ℕ, ◌<◌, ◌≤◌, Bool, true, false, List, [], ◌∷◌, length, map, Option, Some, None, Result, Ok, Err, slice_range, IsUtf8, ⊤}
+use Rattle.std.specs.Prelude.{◌≡◌, ℕ, zero, suc, ◌<◌, ◌≤◌, Bool, true, false, List, [], ◌∷◌, ◌++◌, length, map, Option, Some, None, Result, Ok, Err, slice_range, IsUtf8, ⊤}
 use Rattle.std.specs.Borrow.{Bor}
 use Rattle.sval_label.specs.Calls as call
 use Rattle.sval_label.specs.Calls.{Call}
@@ -66,6 +66,24 @@ closed_kind _ parts holds = holds
 -- this part, where it holds so many if it is a container
 abbrev pub with_length : SeenPart → ℕ → SeenPart
 with_length p parts = record p { holds = closed_kind p.kind parts p.holds }
+
+-- ---- the containers without an end
+
+-- the place of what holds the part at a place
+abbrev pub holder_at : List SeenPart → ℕ → Option ℕ
+holder_at [] i = None
+holder_at (p ∷ parts) zero = p.holder
+holder_at (p ∷ parts) (suc i) = holder_at parts i
+
+-- the place of this container and of those around it, at most so many, the oldest first
+abbrev pub places_within : ℕ → List SeenPart → Option ℕ → List ℕ
+places_within most parts None = []
+places_within zero parts (Some place) = []
+places_within (suc most) parts (Some place) = places_within most parts (holder_at parts place) ++ (place ∷ [])
+
+-- the places of all of them, by that of the newest: there are no more of them than parts
+abbrev pub places_around : List SeenPart → Option ℕ → List ℕ
+places_around parts newest = places_within (suc (length parts)) parts newest
 
 -- ---- the parts of the program
 

@@ -81,8 +81,8 @@ pub enum ErrorKind {
     },
 }
 
-/// Says that the allocator refused memory for what was buffered. Without the allocator only `Parts::newest` makes this
-/// kind of error, at its limit.
+/// Says that the allocator refused memory for what was buffered. Without the allocator only `Parts::next_place` makes
+/// this kind of error, at its limit.
 pub(crate) fn no_alloc(_cause: NoMemory, method: Word) -> ErrorKind
     ensures { result ≡ kinds.NoAlloc method }
 {

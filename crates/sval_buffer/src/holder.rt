@@ -1,6 +1,6 @@
-//! The place of what holds a part.
+//! The place of a container, as parts keep it.
 
-ghost use Rattle.std.specs.Prelude.{◌≡◌, ◌≤◌, ◌-◌, ◌^◌, None, IfSome};
+ghost use Rattle.std.specs.Prelude.{◌≡◌, ◌≤◌, ◌-◌, ◌^◌, Some, None, IfSome};
 ghost use Rattle.sval_buffer.specs.SeenHolder.{held_place};
 
 /// The place of the container that holds a part, if one does. It takes 32 bits.
@@ -11,17 +11,21 @@ pub(crate) struct Holder {
 }
 
 impl Holder {
-    /// Keeps a place, if it is below 2^32 - 1.
-    pub(crate) fn new(place: Option<usize>) -> Option<Holder>
-        ensures same { IfSome result (λ holder. held_place holder ≡ place) }
-        ensures too_far { result ≡ None → IfSome place (λ at. 2 ^ 32 - 1 ≤ at) }
+    /// No container.
+    pub(crate) fn none() -> Holder
+        ensures { held_place result ≡ None }
     {
-        match place {
-            Some(at) => Some(Holder {
-                after: u32::try_from(at).ok()?.checked_add(1)?,
-            }),
-            None => Some(Holder { after: 0 }),
-        }
+        Holder { after: 0 }
+    }
+
+    /// Keeps a place, if it is below 2^32 - 1.
+    pub(crate) fn new(place: usize) -> Option<Holder>
+        ensures same { IfSome result (λ holder. held_place holder ≡ Some place) }
+        ensures too_far { result ≡ None → 2 ^ 32 - 1 ≤ place }
+    {
+        Some(Holder {
+            after: u32::try_from(place).ok()?.checked_add(1)?,
+        })
     }
 
     /// The place.

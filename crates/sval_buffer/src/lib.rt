@@ -14,6 +14,7 @@ mod collect_text;
 mod copies;
 mod error;
 mod fragment_buf;
+mod fragments;
 mod holder;
 mod kept;
 pub mod laws;

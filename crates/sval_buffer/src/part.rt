@@ -1,28 +1,25 @@
 //! The parts of a captured value.
 
-ghost use Rattle.std.specs.Prelude.{◌≡◌, ◌≤◌, ◌++◌, ℕ, List, Some, length, drop, slice_range, IfOk, IfErr};
+ghost use Rattle.std.specs.Prelude.{◌≡◌, ℕ, List, IfOk, IfErr};
 ghost use Rattle.sval_label.specs.Grouped.{grouped_call};
 ghost use Rattle.sval_core.specs.Law.{Emits};
 ghost use Rattle.sval_core.specs.Values.{makes};
-ghost use Rattle.sval_buffer.specs.Capture.{IsNoAlloc, WantsMemory, error_of};
 ghost use Rattle.sval_buffer.specs.Flat.{held_part, push_part};
-ghost use Rattle.sval_buffer.specs.Pushes.{pushed};
 ghost use Rattle.sval_buffer.specs.Replay.{head_calls};
 ghost use Rattle.sval_buffer.specs.Nested.{ends_of_part, is_holder};
-ghost use Rattle.sval_buffer.specs.Forest as forest;
-ghost use Rattle.sval_buffer.specs.Forest.{end_of, push_may_grow};
-ghost use Rattle.sval_buffer.specs.SeenStores.{SeenStores, Appends, Grows};
-ghost use Rattle.sval_buffer.specs.SeenParts.{seen_part, FragmentPushes, fragment_bytes, with_holds, flat_kind, holds_of, holder_of, single_call, begin_call, of_medium, borrowed_bytes, copied_bytes, first_bytes, HoldsBytes, IsStored, IsKept, IsPushCause, Pushed, Suits};
+ghost use Rattle.sval_buffer.specs.Forest.{end_of};
+ghost use Rattle.sval_buffer.specs.SeenHolder.{held_place};
+ghost use Rattle.sval_buffer.specs.SeenStores.{SeenStores, Grows};
+ghost use Rattle.sval_buffer.specs.SeenParts.{seen_part, FragmentPushes, fragment_bytes, with_holds, flat_kind, holds_of, holder_of, single_call, begin_call, first_bytes, HoldsBytes, IsKept, IsPushCause, Pushed, Suits};
 
-use crate::binary_buf::{stream_borrowed_bytes, stream_computed_bytes};
-use crate::error::{ErrorKind, Word, no_alloc};
+use crate::error::{ErrorKind, Word};
+use crate::fragments::{join_borrowed, join_stored, outside, stream_borrowed, stream_computed};
 use crate::holder::Holder;
 use crate::named::{CallStore, make};
 use crate::stores::Stores;
-use crate::text_buf::{stream_borrowed_text, stream_computed_text, text};
 use crate::wide::Wide;
 use std::mem::size_of;
-use sval_core::{Fragment, GroupedCall, Head, Int, Lent, NoMemory, Slot, Stream};
+use sval_core::{Fragment, GroupedCall, Head, Int, Lent, Slot, Stream};
 
 /// A call that is complete by itself, has no name, and is no number of 128 bits.
 #[derive(Clone, Copy)]
@@ -198,6 +195,13 @@ impl<'sval> Part<'sval> {
     pub(crate) fn holder(&self) -> Option<usize>
         ensures { result ≡ holder_of self.now }
     {
+        self.held_by().get()
+    }
+
+    /// The container that holds it, if one does.
+    pub(crate) fn held_by(&self) -> Holder
+        ensures { held_place result ≡ holder_of self.now }
+    {
         match self {
             Part::Single { holder, .. }
             | Part::Wide { holder, .. }
@@ -205,7 +209,7 @@ impl<'sval> Part<'sval> {
             | Part::Borrowed { holder, .. }
             | Part::Stored { holder, .. }
             | Part::Container { holder, .. }
-            | Part::NamedContainer { holder, .. } => holder.get(),
+            | Part::NamedContainer { holder, .. } => *holder,
         }
     }
 
@@ -351,184 +355,17 @@ impl<'sval> Part<'sval> {
         }
     }
 
-    /// Sets the number of parts after this container that it holds.
-    pub(crate) fn close(&mut self, parts: usize)
-        ensures { self.new ≡ with_holds self.old parts }
+    /// Sets the number of parts after this container that it holds, and gives the container that holds it.
+    pub(crate) fn close(&mut self, parts: usize) -> Holder
+        ensures closed { self.new ≡ with_holds self.old parts }
+        ensures around { held_place result ≡ holder_of self.old }
     {
+        let around = self.held_by();
         match self {
             Part::Container { holds, .. } => *holds = parts,
             Part::NamedContainer { holds, .. } => *holds = parts,
             _ => {}
         }
-    }
-}
-
-/// Puts bytes behind what the stores have.
-fn append<N: CallStore>(
-    stores: &mut Stores<N>,
-    medium: Medium,
-    bytes: &[u8],
-) -> Result<(), ErrorKind>
-    ensures appends { Appends stores.old bytes.now result stores.new }
-    ensures err { IfErr result IsNoAlloc }
-{
-    match stores.append(bytes) {
-        Ok(()) => Ok(()),
-        Err(cause) => Err(no_alloc(NoMemory::from(cause), medium.word())),
-    }
-}
-
-/// Answers where a range begins that ends with the bytes of the stores: where this one does, or else where its copy
-/// does, which is put behind them.
-fn last_range<N: CallStore>(
-    stores: &mut Stores<N>,
-    medium: Medium,
-    start: usize,
-    end: usize,
-) -> Result<usize, ErrorKind>
-    requires order { start ≤ end }
-    requires within { end ≤ length stores.old.bytes }
-    ensures grows { Grows stores.old stores.new }
-    ensures last { IfOk result (λ from. drop from stores.new.bytes ≡ slice_range stores.old.bytes start end) }
-    ensures within { IfOk result (λ from. from ≤ length stores.new.bytes) }
-    ensures err { IfErr result IsNoAlloc }
-{
-    let len = stores.len();
-    if end == len {
-        return Ok(start);
-    }
-    match stores.repeat(start, end) {
-        Ok(()) => Ok(len),
-        Err(cause) => Err(no_alloc(NoMemory::from(cause), medium.word())),
-    }
-}
-
-/// A text or a binary of the last bytes of the stores, from a place on, and these behind them.
-fn join_last<'sval, N: CallStore>(
-    medium: Medium,
-    holder: Holder,
-    start: usize,
-    next: &[u8],
-    stores: &mut Stores<N>,
-) -> Result<Part<'sval>, ErrorKind>
-    requires within { start ≤ length stores.old.bytes }
-    requires suits { Suits medium (drop start stores.old.bytes) }
-    requires next_suits { Suits medium next.now }
-    ensures holds { let joined = drop start stores.old.bytes ++ next.now in
-        IfOk result (HoldsBytes stores.new medium holder (copied_bytes joined)) }
-    ensures err { IfErr result IsNoAlloc }
-    ensures grows { Grows stores.old stores.new }
-{
-    append(stores, medium, next)?;
-    Ok(Part::Stored {
-        medium,
-        holder,
-        start,
-        end: stores.len(),
-    })
-}
-
-/// A text or a binary of borrowed bytes, with a fragment more. The first fragment stays borrowed.
-fn join_borrowed<'sval, N: CallStore>(
-    medium: Medium,
-    holder: Holder,
-    bytes: &'sval [u8],
-    fragment: Fragment<&'sval [u8], &[u8]>,
-    stores: &mut Stores<N>,
-) -> Result<Part<'sval>, ErrorKind>
-    requires suits { Suits medium bytes.now }
-    requires next_suits { Suits medium (fragment_bytes fragment).bytes }
-    ensures joined { let held = borrowed_bytes bytes.now in
-        IfOk result (HoldsBytes stores.new medium holder (pushed held (fragment_bytes fragment.entry))) }
-    ensures err { let held = borrowed_bytes bytes.now in
-        IfErr result (WantsMemory (push_may_grow (fragment_bytes fragment.entry).borrowed (Some held))) }
-    ensures grows { Grows stores.old stores.new }
-{
-    match fragment {
-        Fragment::Borrowed(first) if bytes.is_empty() => Ok(Part::Borrowed {
-            medium,
-            holder,
-            bytes: first,
-        }),
-        Fragment::Borrowed(next) | Fragment::Computed(next) => {
-            let start = stores.len();
-            append(stores, medium, bytes)?;
-            join_last(medium, holder, start, next, stores)
-        }
-    }
-}
-
-/// A text or a binary of copied bytes, from a place to another one, with a fragment more. A borrowed fragment onto none
-/// stays borrowed.
-fn join_stored<'sval, N: CallStore>(
-    medium: Medium,
-    holder: Holder,
-    start: usize,
-    end: usize,
-    fragment: Fragment<&'sval [u8], &[u8]>,
-    stores: &mut Stores<N>,
-) -> Result<Part<'sval>, ErrorKind>
-    requires stored { IsStored stores.old.bytes medium start end }
-    requires next_suits { Suits medium (fragment_bytes fragment).bytes }
-    ensures joined { let held = copied_bytes (slice_range stores.old.bytes start end) in
-        IfOk result (HoldsBytes stores.new medium holder (pushed held (fragment_bytes fragment.entry))) }
-    ensures err { let held = copied_bytes (slice_range stores.old.bytes start end) in
-        IfErr result (WantsMemory (push_may_grow (fragment_bytes fragment.entry).borrowed (Some held))) }
-    ensures grows { Grows stores.old stores.new }
-{
-    match fragment {
-        Fragment::Borrowed(first) if start == end => Ok(Part::Borrowed {
-            medium,
-            holder,
-            bytes: first,
-        }),
-        Fragment::Borrowed(next) | Fragment::Computed(next) => {
-            let from = last_range(stores, medium, start, end)?;
-            join_last(medium, holder, from, next, stores)
-        }
-    }
-}
-
-/// What answers a fragment where the last part isn't of its medium.
-pub(crate) fn outside(medium: Medium) -> ErrorKind
-    ensures { result ≡ error_of (forest.outside medium) }
-{
-    match medium {
-        Medium::Text => ErrorKind::OutsideContainer { method: Word::Text },
-        Medium::Binary => ErrorKind::OutsideContainer {
-            method: Word::Binary,
-        },
-    }
-}
-
-/// Makes the calls of one borrowed fragment.
-fn stream_borrowed<'sval, S: Stream<Lent<'sval>>>(
-    medium: Medium,
-    bytes: &'sval [u8],
-    stream: &mut S,
-) -> sval_core::Result
-    requires { Suits medium bytes.now }
-    ensures { let calls = head_calls (of_medium medium (borrowed_bytes bytes.now)) in
-        Emits S.law result (S.standing stream.old) (makes calls) (S.standing stream.new) }
-{
-    match medium {
-        Medium::Text => stream_borrowed_text(text(bytes), stream),
-        Medium::Binary => stream_borrowed_bytes(bytes, stream),
-    }
-}
-
-/// Makes the calls of one computed fragment.
-fn stream_computed<'sval, S: Stream<Lent<'sval>>>(
-    medium: Medium,
-    bytes: &[u8],
-    stream: &mut S,
-) -> sval_core::Result
-    requires { Suits medium bytes.now }
-    ensures { let calls = head_calls (of_medium medium (copied_bytes bytes.now)) in
-        Emits S.law result (S.standing stream.old) (makes calls) (S.standing stream.new) }
-{
-    match medium {
-        Medium::Text => stream_computed_text(text(bytes), stream),
-        Medium::Binary => stream_computed_bytes(bytes, stream),
+        around
     }
 }

@@ -1,6 +1,6 @@
 //! The parts of a captured value, in a flat list.
 
-ghost use Rattle.std.specs.Prelude.{◌≡◌, ◌≤◌, ◌-◌, ◌^◌, true, false, [], not, length, slice_get, IsOk, IfOk, IfErr, IfSome, OnErr, if◌then◌else◌};
+ghost use Rattle.std.specs.Prelude.{◌≡◌, ◌≤◌, ◌-◌, ◌^◌, true, false, not, length, Some, IsOk, IfOk, IfErr, OnErr, if◌then◌else◌};
 ghost use Rattle.sval_label.specs.Calls as calls;
 ghost use Rattle.sval_label.specs.Made.{lent_call};
 ghost use Rattle.sval_label.specs.SeenTags.{seen_ref_tag};
@@ -9,7 +9,7 @@ ghost use Rattle.sval_label.specs.Grouped.{int_call};
 ghost use Rattle.sval_core.specs.Law.{Emits};
 ghost use Rattle.sval_core.specs.Values.{makes};
 ghost use Rattle.sval_buffer.specs.Forest as forest;
-ghost use Rattle.sval_buffer.specs.Forest.{Becomes, HoldsNoPart, add, with_flag, begun, push_into, push_into_text, push_into_binary, close_newest, fragment_may_grow, text_may_grow, binary_may_grow, may_grow, empty_forest};
+ghost use Rattle.sval_buffer.specs.Forest.{Becomes, HoldsNoPart, add, with_flag, begun, push_into, close_newest, fragment_may_grow, may_grow, empty_forest};
 ghost use Rattle.sval_buffer.specs.FlatForest.{forest_in};
 ghost use Rattle.sval_buffer.specs.Capture.{CapturesBy, IsNoAlloc};
 ghost use Rattle.sval_buffer.specs.Owned.{owned};
@@ -20,10 +20,11 @@ ghost use Rattle.sval_buffer.specs.SeenParts.{single_call, begin_call, no_fragme
 
 use crate::copies::owned_parts;
 use crate::error::{ErrorKind, Word, no_alloc};
+use crate::fragments::outside;
 use crate::holder::Holder;
 use crate::named::{CallStore, NamedKind};
 use crate::one_pass::replay_parts;
-use crate::part::{Begin, Keeping, Medium, Part, Single, outside};
+use crate::part::{Begin, Keeping, Medium, Part, Single};
 use crate::refused::{Refused, no_memory};
 use crate::stores::Stores;
 use crate::wide::Wide;
@@ -37,8 +38,8 @@ pub(crate) struct Parts<'sval, N: CallStore> {
     parts: Vec<Part<'sval>>,
     /// What the parts speak of.
     stores: Stores<N>,
-    /// The places of the containers without an end, the oldest first.
-    places: Vec<usize>,
+    /// The newest container without an end. What holds it is the next older one, and so on.
+    newest: Holder,
     /// A text or a binary has begun, and none has ended since.
     in_fragments: bool,
 }
@@ -46,15 +47,19 @@ pub(crate) struct Parts<'sval, N: CallStore> {
 impl<'sval, N: CallStore> Model for Parts<'sval, N> {
     ghost use Rattle.std.specs.Prelude.{map};
     ghost use Rattle.sval_buffer.specs.FlatForest.{FlatForest};
-    ghost use Rattle.sval_buffer.specs.SeenParts.{flat_part_of, seen_parts, PartsTell};
+    ghost use Rattle.sval_buffer.specs.SeenHolder.{held_place};
+    ghost use Rattle.sval_buffer.specs.SeenParts.{flat_part_of, seen_parts, places_around, PartsTell};
 
     ghost Value = { FlatForest };
 
     ghost view = { λ p.
         let seen = seen_parts p.stores p.parts.items in
-        record { parts = map flat_part_of seen; places = p.places.items; in_fragments = p.in_fragments } };
+        let places = places_around seen (held_place p.newest) in
+        record { parts = map flat_part_of seen; places = places; in_fragments = p.in_fragments } };
 
-    ghost invariant = { λ p. PartsTell p.stores p.parts.items p.places.items p.in_fragments };
+    ghost invariant = { λ p.
+        let places = places_around (seen_parts p.stores p.parts.items) (held_place p.newest) in
+        PartsTell p.stores p.parts.items places p.in_fragments };
 }
 
 impl<'sval, N: CallStore> Parts<'sval, N> {
@@ -65,7 +70,7 @@ impl<'sval, N: CallStore> Parts<'sval, N> {
         Parts {
             parts: Vec::new(alloc),
             stores: Stores::new(alloc),
-            places: Vec::new(alloc),
+            newest: Holder::none(),
             in_fragments: false,
         }
     }
@@ -83,7 +88,7 @@ impl<'sval, N: CallStore> Parts<'sval, N> {
     {
         self.parts.clear();
         self.stores.clear();
-        self.places.clear();
+        self.newest = Holder::none();
         self.in_fragments = false;
     }
 
@@ -91,24 +96,23 @@ impl<'sval, N: CallStore> Parts<'sval, N> {
     pub(crate) fn is_complete(&self) -> bool
         ensures { result ≡ forest.is_complete (forest_in self.now) }
     {
-        if self.parts.is_empty() || !self.places.is_empty() {
+        if self.parts.is_empty() || self.newest.get().is_some() {
             return false;
         }
         !self.in_fragments
     }
 
-    /// The place of the newest container without an end, which holds the next part. Where that container follows
-    /// 2^32 - 1 parts or more, want of memory is answered for what `word` names.
-    fn newest(&self, word: Word) -> Result<Holder, ErrorKind>
-        ensures newest { let places = self.now.places in
-            IfOk result (λ holder. held_place holder ≡ slice_get places (length places - 1)) }
+    /// The place of a container that begins now. Behind 2^32 - 1 parts or more, want of memory is answered.
+    fn next_place(&self) -> Result<Holder, ErrorKind>
+        ensures place { IfOk result (λ holder. held_place holder ≡ Some (length self.now.parts)) }
         ensures no_alloc { IfErr result IsNoAlloc }
-        ensures too_far { let places = self.now.places in OnErr result
-            (IfSome (slice_get places (length places - 1)) (λ at. 2 ^ 32 - 1 ≤ at)) }
+        ensures too_far { OnErr result (2 ^ 32 - 1 ≤ length self.now.parts) }
     {
-        match Holder::new(self.places.last().copied()) {
-            Some(holder) => Ok(holder),
-            None => Err(ErrorKind::NoAlloc { method: word }),
+        match Holder::new(self.parts.len()) {
+            Some(place) => Ok(place),
+            None => Err(ErrorKind::NoAlloc {
+                method: Word::Sequence,
+            }),
         }
     }
 
@@ -118,7 +122,7 @@ impl<'sval, N: CallStore> Parts<'sval, N> {
         ensures { let node = forest.Single (single_call call) in
             CapturesBy (λ _. true) (λ f. Becomes (add node f)) self.old result self.new }
     {
-        let holder = self.newest(call.word())?;
+        let holder = self.newest;
         match self.parts.push(Part::Single { holder, call }) {
             Ok(()) => {}
             Err(failed) => return Err(no_alloc(NoMemory::from(failed), call.word())),
@@ -131,7 +135,7 @@ impl<'sval, N: CallStore> Parts<'sval, N> {
         ensures { let node = forest.Single (int_call (wide_int signed number)) in
             CapturesBy (λ _. true) (λ f. Becomes (add node f)) self.old result self.new }
     {
-        let holder = self.newest(Word::Integer)?;
+        let holder = self.newest;
         let part = Part::Wide {
             signed,
             holder,
@@ -167,7 +171,7 @@ impl<'sval, N: CallStore> Parts<'sval, N> {
         ensures { let node = forest.Single (named_call kind (seen_name name.entry)) in
             CapturesBy (λ _. true) (λ f. Becomes (add node f)) self.old result self.new }
     {
-        let holder = self.newest(Word::Text)?;
+        let holder = self.newest;
         if let Err(cause) = self.parts.reserve(1) {
             return Err(no_alloc(NoMemory::from(cause), Word::Text));
         }
@@ -190,7 +194,7 @@ impl<'sval, N: CallStore> Parts<'sval, N> {
         ensures { let node = no_fragments medium keeping in
             CapturesBy (λ _. true) (λ f. Becomes (with_flag true (add node f))) self.old result self.new }
     {
-        let holder = self.newest(medium.word())?;
+        let holder = self.newest;
         let part = Part::empty(medium, keeping, holder, &self.stores);
         match self.parts.push(part) {
             Ok(()) => {
@@ -208,34 +212,8 @@ impl<'sval, N: CallStore> Parts<'sval, N> {
         self.in_fragments = false;
     }
 
-    /// Pushes a fragment into the last part, if that is a text.
-    pub(crate) fn push_text(
-        &mut self,
-        fragment: Fragment<&'sval str, &str>,
-    ) -> Result<(), ErrorKind>
-        ensures { let pushed = fragment_bytes fragment.entry in
-            CapturesBy (text_may_grow pushed.borrowed) (push_into_text pushed) self.old result self.new }
-    {
-        let bytes = match fragment {
-            Fragment::Borrowed(text) => Fragment::Borrowed(text.as_bytes()),
-            Fragment::Computed(text) => Fragment::Computed(text.as_bytes()),
-        };
-        self.push(Medium::Text, bytes)
-    }
-
-    /// Pushes a fragment into the last part, if that is a binary.
-    pub(crate) fn push_binary(
-        &mut self,
-        fragment: Fragment<&'sval [u8], &[u8]>,
-    ) -> Result<(), ErrorKind>
-        ensures { let pushed = fragment_bytes fragment.entry in
-            CapturesBy (binary_may_grow pushed.borrowed) (push_into_binary pushed) self.old result self.new }
-    {
-        self.push(Medium::Binary, fragment)
-    }
-
     /// Pushes a fragment into the last part, if that is of this medium.
-    fn push(
+    pub(crate) fn push(
         &mut self,
         medium: Medium,
         fragment: Fragment<&'sval [u8], &[u8]>,
@@ -250,53 +228,45 @@ impl<'sval, N: CallStore> Parts<'sval, N> {
         }
     }
 
-    /// Begins a container without a name. There is memory for its place before its part is kept.
+    /// Begins a container without a name.
     pub(crate) fn begin(&mut self, begin: Begin, size: usize) -> Result<(), ErrorKind>
         ensures { CapturesBy (λ _. true) (λ f. Becomes (begun (begin_call begin size) f)) self.old result self.new }
     {
-        let holder = self.newest(Word::Sequence)?;
+        let place = self.next_place()?;
         let part = Part::Container {
             begin,
-            holder,
+            holder: self.newest,
             size,
             holds: 0,
         };
-        let place = self.parts.len();
-        if let Err(cause) = self.places.reserve(1) {
-            return Err(no_alloc(NoMemory::from(cause), Word::Sequence));
-        }
         match self.parts.push(part) {
             Ok(()) => {
-                self.places.push_reserved(place);
+                self.newest = place;
                 Ok(())
             }
             Err(failed) => Err(no_alloc(NoMemory::from(failed), Word::Sequence)),
         }
     }
 
-    /// Begins a container with a name. There is memory for its part and its place before its name is kept.
+    /// Begins a container with a name. There is memory for its part before its name is kept.
     pub(crate) fn begin_named(&mut self, kind: NamedKind, name: Name<'_>) -> Result<(), ErrorKind>
         requires begins { IsBegin kind }
         requires name { HasName kind (seen_name name) }
         ensures { let begin = named_call kind (seen_name name.entry) in
             CapturesBy (λ _. true) (λ f. Becomes (begun begin f)) self.old result self.new }
     {
-        let place = self.parts.len();
-        let holder = self.newest(Word::Sequence)?;
-        if let Err(cause) = self.places.reserve(1) {
-            return Err(no_alloc(NoMemory::from(cause), Word::Sequence));
-        }
+        let place = self.next_place()?;
         if let Err(cause) = self.parts.reserve(1) {
             return Err(no_alloc(NoMemory::from(cause), Word::Sequence));
         }
         match self.stores.push_call(kind, name) {
             Ok(at) => {
                 self.parts.push_reserved(Part::NamedContainer {
-                    holder,
+                    holder: self.newest,
                     at,
                     holds: 0,
                 });
-                self.places.push_reserved(place);
+                self.newest = place;
                 Ok(())
             }
             Err(cause) => Err(no_alloc(cause, Word::Sequence)),
@@ -320,21 +290,20 @@ impl<'sval, N: CallStore> Parts<'sval, N> {
         ensures no_part_needs_none { HoldsNoPart (forest_in self.now) → IsOk result }
     {
         let alloc = *self.parts.allocator();
-        if self.parts.is_empty() && self.places.is_empty() {
+        if self.parts.is_empty() {
             return Ok(Parts {
                 parts: Vec::new(alloc),
                 stores: Stores::new(alloc),
-                places: Vec::new(alloc),
+                newest: self.newest,
                 in_fragments: self.in_fragments,
             });
         }
         let parts = Vec::from_slice(alloc, &self.parts)?;
         let stores = self.stores.try_clone(alloc)?;
-        let places = Vec::from_slice(alloc, self.places.as_slice())?;
         Ok(Parts {
             parts,
             stores,
-            places,
+            newest: self.newest,
             in_fragments: self.in_fragments,
         })
     }
@@ -349,21 +318,21 @@ impl<'sval, N: CallStore> Parts<'sval, N> {
         let Parts {
             parts,
             mut stores,
-            places,
+            newest,
             in_fragments,
         } = self;
         match owned_parts(*parts.allocator(), &parts, &mut stores) {
             Ok(parts) => Ok(Parts {
                 parts,
                 stores,
-                places,
+                newest,
                 in_fragments,
             }),
             Err(cause) => Err(Refused {
                 value: Parts {
                     parts,
                     stores,
-                    places,
+                    newest,
                     in_fragments,
                 },
                 error: no_memory(cause),
@@ -411,10 +380,10 @@ impl<'sval, N: CallStore> Parts<'sval, N> {
     pub(crate) fn end(&mut self) -> Result<(), ErrorKind>
         ensures { CapturesBy (λ _. false) close_newest self.old result self.new }
     {
-        match self.places.pop() {
+        match self.newest.get() {
             Some(place) => {
                 let holds = self.parts.len() - place - 1;
-                self.parts[place].close(holds);
+                self.newest = self.parts[place].close(holds);
                 Ok(())
             }
             None => Err(ErrorKind::InvalidValue {

@@ -28,17 +28,17 @@ use sval_ref::ValueRef;
 ///
 /// As a stream it takes the calls of any value. A text or a binary of one fragment that is lent for `'sval` is kept by
 /// reference, and so are the texts of static labels. All other texts and binaries are copied into one store, and the
-/// texts of all other labels into another. So no call takes memory but that by which the parts and these stores grow. An
-/// end ends the newest container that has none, whichever it is, and its name isn't looked at. The end of a text or a
-/// binary is taken anywhere. A hint within a text or a binary is taken and not kept. What holds no call is made again as
-/// `null`.
+/// texts of all other labels into another. Calls with names are kept in a list, with a table of those that were kept
+/// lately. So a call takes memory only where the parts, this list, its table or these stores grow. An end ends the
+/// newest container that has none, whichever it is, and its name isn't looked at. The end of a text or a binary is taken
+/// anywhere. A hint within a text or a binary is taken and not kept. What holds no call is made again as `null`.
 ///
 /// - [`ErrorKind::OutsideContainer`] answers a fragment of a text where the last part isn't a text, and one of a binary
 ///   where it isn't a binary.
 /// - [`ErrorKind::InvalidValue`] with [`Word::Unbalanced`] answers an end where no container is without its end.
 /// - [`ErrorKind::NoAlloc`] answers a call for which there was no memory. An end takes none, and neither does a
-///   borrowed fragment onto an empty text or binary. It also answers what is put into a container that follows 2^32 - 1
-///   parts or more.
+///   borrowed fragment onto an empty text or binary. It also answers the begin of a container behind 2^32 - 1 parts or
+///   more.
 ///
 /// After any refusal the buffer holds what it held before.
 ///
@@ -80,8 +80,8 @@ impl<'sval, N: CallStore> AnyValueBuf<'sval, N> {
 
     /// A buffer that has taken no call, with room for `parts` parts where there is memory for them.
     ///
-    /// A value has a part for each call but fragments and ends. `parts` changes no answer: where it is too small, or
-    /// there is no memory for that room, the buffer grows as the parts come.
+    /// A value has a part for each call but fragments, ends, and hints within a text or a binary. `parts` changes no
+    /// answer: where it is too small, or there is no memory for that room, the buffer grows as the parts come.
     pub fn with_capacity(alloc: Global, parts: usize) -> Self
         ensures { capture_of result ≡ no_calls 0 }
     {
@@ -118,8 +118,8 @@ impl<'sval, N: CallStore> AnyValueBuf<'sval, N> {
 
     /// Captures a value as [`ValueBuf::collect`] does, with room for `parts` parts from the start.
     ///
-    /// A value has a part for each call but fragments and ends. `parts` changes no answer: where it is too small, or
-    /// there is no memory for that room, the buffer grows as the parts come.
+    /// A value has a part for each call but fragments, ends, and hints within a text or a binary. `parts` changes no
+    /// answer: where it is too small, or there is no memory for that room, the buffer grows as the parts come.
     pub fn collect_with_capacity<V: Value<'sval, Lent<'sval>>>(
         alloc: Global,
         parts: usize,

@@ -3,7 +3,7 @@ use Rattle.sval_buffer.specs.SeenStores.{SeenStores, with_bytes}
 use Rattle.sval_buffer.specs.SeenParts.{copied_bytes, HoldsBytes}
 use Rattle.sval_buffer.specs.declared.part.Part.TheVariants as part
 use Rattle.sval_buffer.proofs.JoinedParts.{joined_last}
-use Rattle.sval_buffer.proofs.part.join_last.Goals as goal
+use Rattle.sval_buffer.proofs.fragments.join_last.Goals as goal
 
 pub returns-clause-holds : goal.returns-clause-holds
 returns-clause-holds g c =
