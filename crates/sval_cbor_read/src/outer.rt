@@ -55,6 +55,9 @@ impl Model for Outer {
     ghost view = { λ outer. kept_frames (reverse outer.frames.items) (reverse outer.counts.items) };
 }
 
+/// Room for more frames than this is given back while arrays and maps end, since each end is kept as a node.
+const LARGE: usize = 1 << 16;
+
 /// Takes the last count, or zero where there is none.
 #[inline(always)]
 fn take_count(counts: &mut Vec<usize>) -> usize
@@ -143,11 +146,30 @@ impl Outer {
         }
     }
 
+    /// Whether half of much room for frames is free.
+    #[inline(always)]
+    fn has_much_free_room(&self) -> bool {
+        let room = self.frames.capacity();
+        room > LARGE && self.frames.len() <= room / 2
+    }
+
+    /// Gives back the room that no frame takes.
+    #[cold]
+    #[inline(never)]
+    fn give_back(&mut self)
+        ensures { self.new ≡ self.old }
+    {
+        self.frames.shrink_to_fit();
+    }
+
     /// Takes the innermost frame, if there is one.
     #[tactic(auto, using(crate::proofs::KeptFrames::kept_first))]
     pub(crate) fn pop(&mut self) -> Option<Frame>
         ensures { TakesFrame result self.old self.new }
     {
+        if self.has_much_free_room() {
+            self.give_back();
+        }
         match self.frames.pop() {
             None => None,
             Some(Kept::Items) => Some(Frame::Items(Some(take_count(&mut self.counts)))),
