@@ -1,6 +1,6 @@
 //! Lines that were read lately.
 
-ghost use Rattle.std.specs.Prelude.{◌≡◌, ◌<◌, ◌≤◌, IfSome, IsTrue, length, take};
+ghost use Rattle.std.specs.Prelude.{◌<◌, ◌≤◌, IfSome, length, take};
 ghost use Rattle.sval_script.specs.KnownLines.{IsKeptLine};
 
 use crate::line::Line;
@@ -16,6 +16,9 @@ const PLACES: usize = 1024;
 
 /// The length of the longest line that is remembered, with its line feed.
 const LINE: usize = 80;
+
+/// Once this many lines were put there and none came again, only every sixteenth is.
+const MANY: u32 = 256;
 
 /// The place of no line.
 const NONE: usize = LINES;
@@ -43,9 +46,9 @@ struct KnownLine {
     /// How many bytes the line has.
     len: usize,
     kept: KeptLine,
-    /// The place of a line that came next.
+    /// The place of the line that came next, the last time. By now it may be another line's.
     next: usize,
-    /// The place of another line that came next, before that.
+    /// The place of the line that came next before that.
     other: usize,
     /// The place of the line that came behind values, the last time.
     behind_values: usize,
@@ -101,8 +104,9 @@ impl KnownLine {
 
 /// Lines that were read lately.
 ///
-/// Of each it is remembered which line came next, and which came behind the values after it. Where a script repeats
-/// itself, that line comes again. So one comparison reads it, with no search for the ends of its fields.
+/// Of each it is remembered which two lines came next, the last times, and which came behind the values after it. Where
+/// a script repeats itself, one of them comes again. So a comparison or two read it, with no search for the ends of its
+/// fields.
 #[derive(Drop)]
 pub(crate) struct KnownLines {
     lines: Vec<KnownLine>,
@@ -114,10 +118,12 @@ pub(crate) struct KnownLines {
     last: usize,
     /// The place of the line that is expected.
     expected: usize,
-    /// The place of the line that is expected else.
+    /// The place of the other line that is expected.
     other: usize,
     /// Whether a value was read since.
     is_behind_value: bool,
+    /// How many lines were new since one came again.
+    new_lines: u32,
 }
 
 /// A number with a byte mixed in.
@@ -150,7 +156,14 @@ impl KnownLines {
             expected: NONE,
             other: NONE,
             is_behind_value: false,
+            new_lines: 0,
         }
+    }
+
+    /// Whether the next new line is to be remembered. Of a script whose lines don't come again, few are.
+    pub(crate) fn wants_next(&mut self) -> bool {
+        self.new_lines = self.new_lines.wrapping_add(1);
+        self.new_lines < MANY || self.new_lines % 16 == 0
     }
 
     /// What the line at a place says and how long it is, if a script begins with it. It is then the last line.
@@ -166,6 +179,7 @@ impl KnownLines {
         self.expected = next;
         self.other = other;
         self.is_behind_value = false;
+        self.new_lines = 0;
         Some(found)
     }
 
@@ -178,7 +192,7 @@ impl KnownLines {
         self.find_at(self.expected, script)
     }
 
-    /// What the line that is expected else says and how long it is, if a script begins with it.
+    /// What the other line that is expected says and how long it is, if a script begins with it.
     #[inline(always)]
     pub(crate) fn find_other(&mut self, script: &[u8]) -> Option<(KeptLine, usize)>
         ensures within { IfSome result (λ found. found.1 ≤ length script.now) }
@@ -260,6 +274,7 @@ impl KnownLines {
         let at = *place as usize;
         if let Some(known) = self.lines.get(at) {
             if known.is(line) {
+                self.new_lines = 0;
                 return at;
             }
         }

@@ -68,7 +68,8 @@ pub(crate) enum Line {
 }
 
 impl Line {
-    /// Whether it is a value, or a part of one, which seldom comes again as it is.
+    /// Whether it is a truth value, a number, a part of a text or a binary, or a tag alone. These seldom come again as
+    /// they are.
     #[inline(always)]
     pub(crate) fn is_value(self) -> bool {
         match self {
@@ -285,7 +286,7 @@ fn read_other(
 }
 
 /// Reads the first line of a script, and answers also what follows it. What doesn't fit the line goes behind what the
-/// store has. A line that is expected, since it came there before, is told by one comparison.
+/// store has. A line that is expected, since it came there before, is told by a comparison or two.
 #[inline(always)]
 pub(crate) fn read_line<'a>(
     store: &mut Store,

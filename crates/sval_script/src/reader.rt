@@ -136,7 +136,8 @@ impl ReadLines {
 /// Reads a script that comes piece by piece, as [`Script::read`] reads one whole.
 ///
 /// It is seen as what it will answer: `answer_with` of `specs/Readings.antt` says what that is if some bytes follow and
-/// no more. It keeps the calls of the lines and no more of the pieces than the line that is begun.
+/// no more. It keeps the calls of the lines, and of the pieces the line that is begun and up to 64 short lines that it
+/// read lately.
 ///
 /// ```
 /// let mut reader = ScriptReader::new(alloc);

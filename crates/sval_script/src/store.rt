@@ -157,7 +157,9 @@ impl Store {
         }
     }
 
-    /// Remembers a line with its line feed, whose own bytes and numbers are those from `start` and `count` on.
+    /// Remembers a line with its line feed, whose own bytes and numbers are those from `start` and `count` on. It isn't
+    /// remembered where it has more than two numbers, a text of more than 16 bytes or a line of more than 80, or where
+    /// there is no room of 16 bytes behind its text.
     #[inline(never)]
     pub(crate) fn remember(
         &self,
@@ -171,7 +173,7 @@ impl Store {
     {
         let own = &self.numbers[count..];
         let mut numbers = [0; 2];
-        if own.len() > numbers.len() {
+        if !known.wants_next() || own.len() > numbers.len() {
             known.pass_other();
             return;
         }

@@ -102,7 +102,7 @@ tuple_begin - - - -
 tuple_value_begin - -
 = bad-line 2
 
-# Labels that come again: two that share a slot, one of 16 bytes, one of 17 and one of 24.
+# Labels that come again: two that differ in one byte, one of 16 bytes, one of 17 and one of 24.
 record_begin - - - 7
 record_value_begin - =6161
 null
