@@ -157,7 +157,7 @@ word_read opened tokens word.Se = refl
 -- the rest of a word is passed over
 pub passes_word : (bytes : List ℕ) (at : ℕ) (old : Reader) (left : Word) (letters : List ℕ) → old.expected ≡ expected.Letter left → letters ≡ letters_of left → at ≤ length bytes
     → true ≡ starts_with ◌==◌ (between at (length bytes) bytes) letters → IsReadTo bytes at old
-    → Passes bytes at old (at + length letters) record { expected = expected.Next; from = old.from; opened = old.opened; nodes = old.nodes }
+    → Passes bytes at old (at + length letters) record { expected = expected.Next; from = old.from; spaces = old.spaces; opened = old.opened; nodes = old.nodes }
 passes_word bytes at old left letters is e w test r =
     let tokens = tokens_in bytes (map seen_node old.nodes) in
     let piece = piece_by_test bytes letters at w test in

@@ -49,6 +49,8 @@ pub(crate) struct Reader {
     pub(crate) expected: Expected,
     /// Where the number or string begins that is being read.
     pub(crate) from: usize,
+    /// How many bytes of white space came the last time that several came at once.
+    pub(crate) spaces: usize,
     pub(crate) opened: Stack,
     pub(crate) nodes: NodeList,
 }
@@ -63,6 +65,7 @@ impl Reader {
         Reader {
             expected: Expected::AValue,
             from: 0,
+            spaces: 0,
             opened: Stack::new(alloc),
             nodes: NodeList::new(alloc),
         }

@@ -41,6 +41,22 @@ impl Reader {
         at + self.plain_run(bytes, at)
     }
 
+    /// The place behind the white space between two tokens. How much there was is kept, as a guess for the next time.
+    #[inline(always)]
+    fn behind_spaces(&mut self, bytes: &[u8], at: usize) -> usize
+        requires at_in { at ≤ length bytes.now }
+        requires reads { IsReadTo bytes.now at self.old }
+        ensures passes { Passes bytes.now at self.old result self.new }
+        ensures expected { self.new.expected ≡ self.old.expected }
+        ensures opened { self.new.opened ≡ self.old.opened }
+    {
+        let count = self.plain_run(bytes, at);
+        if count > 1 {
+            self.spaces = count;
+        }
+        at + count
+    }
+
     /// Takes a byte behind which this comes next, and gives the place behind it.
     #[inline(always)]
     fn expect(&mut self, expected: Expected, bytes: &[u8], at: usize) -> usize
@@ -90,7 +106,7 @@ impl Reader {
         requires is { takes_values self.old.expected ≡ true }
         ensures { Passes bytes.now at self.old result self.new }
     {
-        let begin = self.behind_run(bytes, at);
+        let begin = self.behind_spaces(bytes, at);
         if begin == bytes.len() {
             return begin;
         }
@@ -112,7 +128,7 @@ impl Reader {
         requires is { takes_keys self.old.expected ≡ true }
         ensures { Passes bytes.now at self.old result self.new }
     {
-        let begin = self.behind_run(bytes, at);
+        let begin = self.behind_spaces(bytes, at);
         if begin == bytes.len() || bytes[begin] != b'"' {
             return begin;
         }
@@ -128,7 +144,7 @@ impl Reader {
         requires is { self.old.expected ≡ expected.Colon }
         ensures { Passes bytes.now at self.old result self.new }
     {
-        let colon = self.behind_run(bytes, at);
+        let colon = self.behind_spaces(bytes, at);
         if colon == bytes.len() || bytes[colon] != b':' {
             return colon;
         }
@@ -145,7 +161,7 @@ impl Reader {
         requires is { self.old.expected ≡ expected.Next }
         ensures { Passes bytes.now at self.old result self.new }
     {
-        let comma = self.behind_run(bytes, at);
+        let comma = self.behind_spaces(bytes, at);
         if comma == bytes.len() || bytes[comma] != b',' {
             return comma;
         }

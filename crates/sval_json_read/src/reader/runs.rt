@@ -1,6 +1,6 @@
 //! Bytes that are passed over at once.
 
-ghost use Rattle.std.specs.Prelude.{◌≡◌, ◌+◌, ◌≤◌, Some, length, take, drop};
+ghost use Rattle.std.specs.Prelude.{◌≡◌, ◌+◌, ◌≤◌, Some, length, take, drop, true};
 ghost use Rattle.std.specs.Char.{is_ascii_digit};
 ghost use Rattle.std.specs.List.{AllPass};
 ghost use Rattle.sval_json.specs.Escape.{is_plain};
@@ -31,7 +31,9 @@ impl Reader {
             Expected::InNumber(phase) if takes_digits(phase) => digits_ahead(&bytes[at..]),
             expected => match bytes.get(at) {
                 // Most often another token comes at once.
-                Some(next) if *next <= b' ' && skips_spaces(expected) => spaces_ahead(&bytes[at..]),
+                Some(next) if *next <= b' ' && skips_spaces(expected) => {
+                    spaces_ahead(&bytes[at..], self.spaces)
+                },
                 _ => 0,
             },
         }
@@ -92,21 +94,38 @@ fn digits_ahead(bytes: &[u8]) -> usize
         .unwrap_or(bytes.len())
 }
 
-/// How many bytes of white space come before another byte.
+/// How many bytes of white space come before another byte, where `last` came the last time.
 ///
-/// Behind a colon there is most often one space, which is looked at within the caller.
+/// Behind a colon there is most often one space, and a line most often begins with as many as the line before. Both are
+/// asked within the caller: the next place then depends on no vector.
 #[inline(always)]
-fn spaces_ahead(bytes: &[u8]) -> usize
+fn spaces_ahead(bytes: &[u8], last: usize) -> usize
     ensures within { result ≤ length bytes.now }
     ensures spaces { AllPass is_space (take result bytes.now) }
 {
     if bytes.len() > 1 && bytes[0] == b' ' && bytes[1] > b' ' {
         return 1;
     }
+    if has_spaces(bytes, last) {
+        return last;
+    }
     more_spaces_ahead(bytes)
 }
 
-/// Does the same for any white space, 16 bytes at a time.
+/// Whether `count` bytes of white space come before another byte, as far as the first 16 bytes tell.
+#[inline(always)]
+fn has_spaces(bytes: &[u8], count: usize) -> bool
+    ensures within { result ≡ true → count ≤ length bytes.now }
+    ensures spaces { result ≡ true → AllPass is_space (take count bytes.now) }
+{
+    if bytes.len() < LANES {
+        return false;
+    }
+    let others = others_than_spaces(bytes);
+    others != 0 && others.trailing_zeros() as usize == count
+}
+
+/// How many bytes of white space come, whatever came before. They are looked at 16 at a time.
 fn more_spaces_ahead(bytes: &[u8]) -> usize
     ensures within { result ≤ length bytes.now }
     ensures spaces { AllPass is_space (take result bytes.now) }
